@@ -1,0 +1,27 @@
+-- What holds of a table: its length, and what stands at each place. Assumes nothing.
+use Prim.Native.Nat.{ℕ, zero, suc, _+_, _<_, _≤_}
+use native.Mathlib.Omega.{arith}
+use native.Mathlib.Nat.{not-suc-le-zero, add-zero}
+use native.Mathlib.Decide.{decLt}
+use mathlib.Core.List.{List, [], _∷_, _++_}
+use mathlib.Core.Path.{_≡_, refl, sym, ap, _∙_}
+use lib.ListN.{length, getD, length-append, List·getD-append, List·getD-eq-default}
+use lib.Seq.{getD-at}
+use Rattle.below.specs.Table.{table}
+
+module _ {ℓ} {A : Type ℓ} where
+  pub length-table : (f : ℕ → A) (n : ℕ) → length (table f n) ≡ n
+  unfolding table
+  length-table f zero = refl
+  length-table f (suc n) = length-append (table f n) (f n ∷ []) ∙ omega (arith, length-table f n)
+
+  pub getD-table : (f : ℕ → A) (n i : ℕ) (d : A) → i < n → getD (table f n) i d ≡ f i
+  unfolding table
+  getD-table f zero i d h = absurd (not-suc-le-zero h)
+  getD-table f (suc n) i d h = elim (decLt i n) [ yes a ↦ List·getD-append (table f n) (f n ∷ []) d i (omega (arith, length-table f n)) ∙ getD-table f n i d a | no b ↦ last (omega arith) ]
+    where
+      last : i ≡ n → getD (table f n ++ (f n ∷ [])) i d ≡ f i
+      last e = rw e (getD-at (table f n) (f n) [] d n (length-table f n))
+
+  pub getD-table-past : (f : ℕ → A) (n i : ℕ) (d : A) → n ≤ i → getD (table f n) i d ≡ d
+  getD-table-past f n i d h = List·getD-eq-default (table f n) d (omega (arith, length-table f n))

@@ -1,0 +1,4 @@
+pub mod Digits
+pub mod Bit
+pub mod ByteBit
+pub mod Bytes

@@ -1,0 +1,33 @@
+-- What holds of a bit of a list of bytes. Assumes nothing.
+use Prim.Native.Nat.{ℕ, _/_, _%_, _<_, _≤_}
+use native.Mathlib.Omega.{arith}
+use native.Mathlib.Decide.{decLt, ℕ-discrete}
+use mathlib.Core.List.{List}
+use mathlib.Core.Logic.{_≢_}
+use mathlib.Core.Path.{_≡_, refl, sym, ap, ap₂, _∙_, subst}
+use lib.ListN.{length, getD, set, length-set, List·getD-eq-default}
+use lib.Seq.{getD-set-same, getD-set-other, set-out}
+use Rattle.bits.specs.Bit.{bit, withBit}
+use Rattle.bits.specs.ByteBit.{byteBit, withByteBit}
+use Rattle.bits.proofs.laws.Bit.{bit-with-same, bit-with-other, bit-below}
+
+pub byte-bit-below : (bytes : List ℕ) (i : ℕ) → byteBit bytes i < 2
+unfolding byteBit
+byte-bit-below bytes i = bit-below (getD bytes (i / 8) 0) (i % 8)
+
+pub length-with-byte-bit : (bytes : List ℕ) (i : ℕ) → length (withByteBit bytes i) ≡ length bytes
+unfolding withByteBit
+length-with-byte-bit bytes i = length-set bytes (i / 8) _
+
+pub byte-bit-with-same : (bytes : List ℕ) (i : ℕ) → i / 8 < length bytes → byteBit (withByteBit bytes i) i ≡ 1
+unfolding byteBit withByteBit
+byte-bit-with-same bytes i h = rw (getD-set-same bytes (i / 8) (withBit (getD bytes (i / 8) 0) (i % 8)) 0 h) (bit-with-same (getD bytes (i / 8) 0) (i % 8))
+
+pub byte-bit-with-other : (bytes : List ℕ) (i j : ℕ) → j ≢ i → byteBit (withByteBit bytes i) j ≡ byteBit bytes j
+unfolding byteBit withByteBit
+byte-bit-with-other bytes i j h = elim (ℕ-discrete (j / 8) (i / 8)) [ yes e ↦ there e | no d ↦ ap (λ (b : ℕ). bit b (j % 8)) (getD-set-other bytes (i / 8) (j / 8) (withBit (getD bytes (i / 8) 0) (i % 8)) 0 d) ]
+  where
+    inside : j / 8 ≡ i / 8 → i / 8 < length bytes → bit (getD (set bytes (i / 8) (withBit (getD bytes (i / 8) 0) (i % 8))) (j / 8) 0) (j % 8) ≡ bit (getD bytes (j / 8) 0) (j % 8)
+    inside e l = rw (e, getD-set-same bytes (i / 8) (withBit (getD bytes (i / 8) 0) (i % 8)) 0 l) (bit-with-other (getD bytes (i / 8) 0) (i % 8) (j % 8) (λ m. h (omega arith)))
+    there : j / 8 ≡ i / 8 → bit (getD (set bytes (i / 8) (withBit (getD bytes (i / 8) 0) (i % 8))) (j / 8) 0) (j % 8) ≡ bit (getD bytes (j / 8) 0) (j % 8)
+    there e = elim (decLt (i / 8) (length bytes)) [ yes l ↦ inside e l | no l ↦ ap (λ (bs : List ℕ). bit (getD bs (j / 8) 0) (j % 8)) (set-out bytes (i / 8) (withBit (getD bytes (i / 8) 0) (i % 8)) (omega arith)) ]

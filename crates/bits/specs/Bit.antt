@@ -1,0 +1,10 @@
+-- Bit k of a number, 0 or 1 (01, "The game" and "The certificate"). Assumes nothing.
+use Prim.Native.Nat.{ℕ, _+_, _*_, _-_, _/_, _%_, _^_}
+
+unfoldable pub bit : ℕ → ℕ → ℕ
+bit n k = n / 2 ^ k % 2
+
+-- n with bit k set to 1
+unfoldable pub withBit : ℕ → ℕ → ℕ
+unfolding bit
+withBit n k = n + (1 - bit n k) * 2 ^ k

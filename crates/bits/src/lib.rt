@@ -1,0 +1,2 @@
+// Numbers as digits: bits of a number, bytes of a number with the lowest first, a bit of a list of bytes.
+// Definitions (specs/) and their laws (proofs/laws/); every law is over the base or the width.

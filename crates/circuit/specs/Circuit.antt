@@ -1,0 +1,44 @@
+-- A circuit (01, "The file", rules 1, 2 and 4, and the sentence on controllable inputs): what its text means, lines in the order of the
+-- file. Names, comment and the spelling of the file are no part of it. Assumes nothing.
+use Prim.Native.Nat.{ℕ, zero, suc}
+use mathlib.Core.Bool.{Bool, cond, not}
+use mathlib.Core.List.{List, [], _∷_}
+use lib.ListN.{length}
+
+-- an input's literal, and whether it is controllable
+pub record Input : Type 0 where
+  pub own : ℕ
+  pub controllable : Bool
+
+-- a latch's literal and its next-state literal
+pub record Latch : Type 0 where
+  pub own : ℕ
+  pub next : ℕ
+
+-- a gate's literal and its two operands
+pub record Gate : Type 0 where
+  pub own : ℕ
+  pub left : ℕ
+  pub right : ℕ
+
+pub record Circuit : Type 0 where
+  pub largest : ℕ
+  pub inputs : List Input
+  pub latches : List Latch
+  pub output : ℕ
+  pub gates : List Gate
+
+-- how many inputs of a list pass
+unfoldable pub inputsThat : (Input → Bool) → List Input → ℕ
+inputsThat p [] = zero
+inputsThat p (i ∷ is) = cond (p i) (suc (inputsThat p is)) (inputsThat p is)
+
+-- L, U and C (01, the table of limits)
+unfoldable pub latchCount : Circuit → ℕ
+latchCount c = length (c .latches)
+
+unfoldable pub uncontrollableCount : Circuit → ℕ
+uncontrollableCount c = inputsThat (λ i. not (i .controllable)) (c .inputs)
+
+unfoldable pub controllableCount : Circuit → ℕ
+controllableCount c = inputsThat (λ i. i .controllable) (c .inputs)

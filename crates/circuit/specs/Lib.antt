@@ -1,0 +1,6 @@
+pub mod Limits
+pub mod Outcome
+pub mod Literal
+pub mod Circuit
+pub mod Reset
+pub mod SameCircuit

@@ -1,0 +1,36 @@
+// The circuit kind: a circuit as a value, its limits, and the number and place of a refusal.
+pub mod limits;
+
+// A circuit (01, "The file"): counts and literals, lines in the order of the file.
+// Arrays are of numbers, so that a step can lend them; what lies behind a count isn't read.
+pub struct Circuit {
+    pub largest: u16,
+    pub inputs: usize,
+    pub latches: usize,
+    pub gates: usize,
+    pub input_own: [u16; Circuit::INPUTS],
+    pub input_controllable: [u8; Circuit::INPUTS],
+    pub latch_own: [u16; Circuit::LATCHES],
+    pub latch_next: [u16; Circuit::LATCHES],
+    pub output: u16,
+    pub gate_own: [u16; Circuit::VARIABLES],
+    pub gate_left: [u16; Circuit::VARIABLES],
+    pub gate_right: [u16; Circuit::VARIABLES],
+}
+
+// The limits (01, "What the library takes and gives").
+impl Circuit {
+    pub const FILE: usize = 16384;
+    pub const VARIABLES: usize = 1000;
+    pub const LATCHES: usize = 10;
+    pub const INPUTS: usize = 13;
+    pub const UNCONTROLLABLE: usize = 5;
+    pub const CONTROLLABLE: usize = 8;
+    pub const OUTPUTS: usize = 1;
+}
+
+// A refusal (01, "The numbers").
+pub struct Refusal {
+    pub number: u8,
+    pub place: usize,
+}

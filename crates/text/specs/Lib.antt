@@ -1,0 +1,11 @@
+pub mod Numbers
+pub mod Number
+pub mod Line
+pub mod Header
+pub mod Rules
+pub mod Section
+pub mod Symbol
+pub mod TextFile
+pub mod Read
+pub mod Written
+pub mod Printed

@@ -1,0 +1,1 @@
+// The text form of AIGER (01, "The file"): its definitions (specs/) and their laws (proofs/laws/).

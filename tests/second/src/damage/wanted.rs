@@ -1,0 +1,86 @@
+//! Random well-formed files of a wanted outcome: document 01, "The game".
+
+use super::draft::{draft, Draft};
+use super::net::Net;
+use super::random::Random;
+use super::styles;
+use crate::game::{solve, Game};
+use crate::reader::read;
+
+#[derive(Clone, Copy, Debug)]
+pub enum Wanted {
+    /// Realizable, and every state lies in the region.
+    HoldsEverywhere,
+    /// Realizable with a state outside the region.
+    HoldsInPart,
+    /// Unrealizable with a reset rank of 1 or 2.
+    LosesSoon,
+    /// Unrealizable with a reset rank above 2.
+    LosesLate,
+}
+
+const TRIES: usize = 60;
+
+/// The first of some random files with this outcome, else the last of them.
+pub fn file(random: &mut Random, wanted: Wanted) -> Vec<u8> {
+    let mut bytes = Vec::new();
+    for _ in 0..TRIES {
+        let shape = shape(random, wanted);
+        bytes = of_shape(random, shape).bytes();
+        if read(&bytes).is_ok_and(|circuit| fits(&solve(&circuit), wanted)) {
+            break;
+        }
+    }
+    bytes
+}
+
+/// A random well-formed file without a wanted outcome.
+pub fn any(random: &mut Random) -> Draft {
+    let shape = Shape {
+        latches: random.below(6),
+        uncontrollable: random.below(4),
+        controllable: random.below(4),
+    };
+    of_shape(random, shape)
+}
+
+#[derive(Clone, Copy)]
+pub struct Shape {
+    pub latches: usize,
+    pub uncontrollable: usize,
+    pub controllable: usize,
+}
+
+pub fn of_shape(random: &mut Random, shape: Shape) -> Draft {
+    let mut controllable = vec![false; shape.uncontrollable];
+    controllable.resize(shape.uncontrollable + shape.controllable, true);
+    random.shuffle(&mut controllable);
+    let mut net = Net::new(controllable, shape.latches);
+    styles::fill(&mut net, random);
+    draft(&net, random)
+}
+
+fn shape(random: &mut Random, wanted: Wanted) -> Shape {
+    let least_latches = match wanted {
+        Wanted::HoldsEverywhere | Wanted::LosesSoon => 0,
+        Wanted::HoldsInPart => 1,
+        Wanted::LosesLate => 2,
+    };
+    let large = random.chance(2);
+    Shape {
+        latches: random.between(least_latches, if large { 7 } else { 5 }),
+        uncontrollable: random.below(if large { 6 } else { 4 }),
+        controllable: random.below(if large { 9 } else { 4 }),
+    }
+}
+
+fn fits(game: &Game, wanted: Wanted) -> bool {
+    let reset = game.ranks[0];
+    let partly = game.ranks.iter().any(|&rank| rank != 0);
+    match wanted {
+        Wanted::HoldsEverywhere => !partly,
+        Wanted::HoldsInPart => reset == 0 && partly,
+        Wanted::LosesSoon => reset == 1 || reset == 2,
+        Wanted::LosesLate => reset > 2,
+    }
+}
