@@ -1,5 +1,6 @@
 pub mod Limits
 pub mod Outcome
+pub mod Answer
 pub mod Literal
 pub mod Circuit
 pub mod Reset

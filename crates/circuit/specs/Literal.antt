@@ -2,13 +2,14 @@
 use Prim.Native.Nat.{ℕ, _+_, _*_, _/_, _%_}
 use mathlib.Core.Bool.{Bool, _&&_}
 use lib.Dec.{eqb, leb, ltb}
+use Rattle.bits.specs.Bit.{odd}
 
 -- the variable that a literal speaks of
 unfoldable pub variable : ℕ → ℕ
 variable l = l / 2
 
 unfoldable pub inverted : ℕ → Bool
-inverted l = eqb (l % 2) 1
+inverted l = odd l
 
 -- 0 and 1, false and true
 unfoldable pub constant : ℕ → Bool

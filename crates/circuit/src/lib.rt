@@ -34,3 +34,9 @@ pub struct Refusal {
     pub number: u8,
     pub place: usize,
 }
+
+// What a writer answers: how many bytes it wrote at the front of the buffer, or why it wrote none.
+pub enum Written {
+    Bytes(usize),
+    Refused(Refusal),
+}

@@ -1,0 +1,4 @@
+pub mod Numbers
+pub mod Rules
+pub mod Check
+pub mod Answer

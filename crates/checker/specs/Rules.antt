@@ -1,0 +1,51 @@
+-- What the tables of a certificate must be (01, "The certificate", what passes; "The numbers", 13 to 15). Assumes nothing.
+use Prim.Native.Nat.{ℕ, _*_, _/_, _%_}
+use mathlib.Core.Bool.{Bool, not, _&&_, _||_}
+use mathlib.Core.List.{List}
+use lib.Dec.{eqb, ltb}
+use lib.ListN.{length}
+use Rattle.below.specs.Least.{least, any, every}
+use Rattle.circuit.specs.Circuit.{Circuit, latchCount, uncontrollableCount}
+use Rattle.circuit.specs.Reset.{isReset}
+use Rattle.game.specs.Game.{Game}
+use Rattle.game.specs.Attack.{attackBroken}
+use Rattle.game.specs.CircuitGame.{circuitGame}
+use Rattle.game.specs.Reply.{replyBroken}
+use Rattle.records.specs.AttackTable.{attackLength, storedRank, storedAttack}
+use Rattle.records.specs.RegionBits.{regionLength, holdsState, unusedBitSet}
+use Rattle.records.specs.ReplyBytes.{replyLength, storedReply}
+
+-- 13: wrong length, or unused region bit 1
+unfoldable pub badReplyTables : Circuit → (region table : List ℕ) → Bool
+badReplyTables c region table =
+    not (eqb (length region) (regionLength (latchCount c)))
+    || not (eqb (length table) (replyLength (latchCount c) (uncontrollableCount c)))
+    || unusedBitSet region (latchCount c)
+
+unfoldable pub badAttackTable : Circuit → (table : List ℕ) → Bool
+badAttackTable c table = not (eqb (length table) (attackLength (latchCount c)))
+
+-- 14: a reset state not in the region; all of them of rank 0
+unfoldable pub resetOutside : Circuit → (region : List ℕ) → Bool
+resetOutside c region =
+    any (λ s. isReset c s && not (holdsState region (latchCount c) s)) (circuitGame c .states)
+
+unfoldable pub resetUnranked : Circuit → (table : List ℕ) → Bool
+resetUnranked c table =
+    every (λ s. not (isReset c s) || eqb (storedRank table (latchCount c) s) 0) (circuitGame c .states)
+
+-- 15: the lowest s × 2^U + reading at which a reply breaks the step rule, or 2^(L+U) where none does
+unfoldable pub brokenReply : Circuit → (region table : List ℕ) → ℕ
+brokenReply c region table =
+    let g = circuitGame c in
+    least
+    (λ i.
+    replyBroken g (holdsState region (latchCount c)) (storedReply table (latchCount c) (uncontrollableCount c))
+    (i / g .readings) (i % g .readings))
+    (g .states * g .readings)
+
+-- the lowest s whose attack breaks it, or 2^L where none does
+unfoldable pub brokenAttack : Circuit → (table : List ℕ) → ℕ
+brokenAttack c table =
+    let g = circuitGame c in
+    least (attackBroken g (storedRank table (latchCount c)) (storedAttack table (latchCount c))) (g .states)

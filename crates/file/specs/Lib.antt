@@ -1,0 +1,2 @@
+pub mod CircuitIn
+pub mod Answer

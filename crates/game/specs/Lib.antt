@@ -1,0 +1,10 @@
+pub mod Game
+pub mod Keeps
+pub mod Region
+pub mod Rank
+pub mod Reply
+pub mod Attack
+pub mod Verdict
+pub mod Play
+pub mod CircuitGame
+pub mod Listing

@@ -1,0 +1,5 @@
+pub mod Record
+pub mod RegionBits
+pub mod ReplyBytes
+pub mod AttackTable
+pub mod Tables

@@ -1,0 +1,43 @@
+-- The certificate of a circuit (01, "The certificate"): kinds 1, 2, 3 if it is realizable, kinds 1, 4 if not; and what a writer writes into a
+-- buffer of a given length (01, "The numbers", 10). Assumes nothing.
+use Prim.Native.Nat.{ℕ}
+use mathlib.Core.Bool.{cond}
+use mathlib.Core.List.{List, _++_}
+use lib.Dec.{ltb}
+use lib.ListN.{length}
+use Rattle.circuit.specs.Circuit.{Circuit, latchCount, uncontrollableCount}
+use Rattle.circuit.specs.Outcome.{Outcome, taken, refused, _>>=_, _>>_, refuseIf}
+use Rattle.file.specs.CircuitIn.{circuitIn}
+use Rattle.game.specs.Attack.{attack}
+use Rattle.game.specs.CircuitGame.{circuitGame, isRealizable}
+use Rattle.game.specs.Rank.{rank, inRegion}
+use Rattle.game.specs.Reply.{reply}
+use Rattle.records.specs.AttackTable.{attackBytes}
+use Rattle.records.specs.Record.{recordOf, circuitKind, regionKind, replyKind, attackKind}
+use Rattle.records.specs.RegionBits.{regionBytes}
+use Rattle.records.specs.ReplyBytes.{replyBytes}
+
+-- lent buffer shorter than what must be written
+abbrev pub noRoom : ℕ
+noRoom = 10
+
+unfoldable pub replyCertificate : List ℕ → Circuit → List ℕ
+replyCertificate file c =
+    recordOf circuitKind file
+    ++ recordOf regionKind (regionBytes (inRegion (circuitGame c)) (latchCount c))
+    ++ recordOf replyKind (replyBytes (reply (circuitGame c)) (latchCount c) (uncontrollableCount c))
+
+unfoldable pub attackCertificate : List ℕ → Circuit → List ℕ
+attackCertificate file c =
+    recordOf circuitKind file
+    ++ recordOf attackKind (attackBytes (rank (circuitGame c)) (attack (circuitGame c)) (latchCount c))
+
+unfoldable pub certificateOf : List ℕ → Circuit → List ℕ
+certificateOf file c = cond (isRealizable c) (replyCertificate file c) (attackCertificate file c)
+
+-- what is written for a file, given room for so many bytes
+unfoldable pub certified : List ℕ → ℕ → Outcome (List ℕ)
+certified file room = do
+  c ← circuitIn file
+  refuseIf (ltb room (length (certificateOf file c))) noRoom 0
+  taken (certificateOf file c)
