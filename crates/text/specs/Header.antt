@@ -5,7 +5,7 @@ use mathlib.Core.List.{List, [], _∷_}
 use mathlib.Core.Option.{Option, none}
 use lib.Dec.{eqb, leb}
 use lib.ListN.{getD, drop}
-use Rattle.bits.specs.Bytes.{startsWith}
+use Rattle.bits.specs.Bytes.{ascii, startsWith}
 use Rattle.circuit.specs.Limits.{Limits}
 use Rattle.text.specs.Line.{numbersOf}
 
@@ -16,9 +16,8 @@ pub record Header : Type 0 where
   pub outputs : ℕ
   pub gates : ℕ
 
--- `aag` and a space
 abbrev pub word : List ℕ
-word = 97 ∷ 97 ∷ 103 ∷ 32 ∷ []
+word = ascii "aag "
 
 -- the five numbers behind the word
 unfoldable pub headerNumbers : List ℕ → Option (List ℕ)

@@ -6,7 +6,7 @@ use mathlib.Core.List.{List, [], _∷_, _++_, map}
 use mathlib.Core.Option.{none}
 use Rattle.circuit.specs.Circuit.{Circuit, Input}
 use Rattle.text.specs.Number.{decimal}
-use Rattle.text.specs.Symbol.{Symbol, prefix}
+use Rattle.text.specs.Symbol.{Symbol, inputLetter, prefix}
 use Rattle.text.specs.TextFile.{TextFile}
 use Rattle.text.specs.Written.{textOf}
 
@@ -14,7 +14,7 @@ use Rattle.text.specs.Written.{textOf}
 unfoldable pub printedSymbols : ℕ → List Input → List Symbol
 printedSymbols position [] = []
 printedSymbols position (i ∷ is) =
-    cond (i .controllable) (record { letter = 105; position = position; name = prefix ++ decimal position } ∷ []) []
+    cond (i .controllable) (record { letter = inputLetter; position = position; name = prefix ++ decimal position } ∷ []) []
     ++ printedSymbols (suc position) is
 
 unfoldable pub printedFile : Circuit → TextFile

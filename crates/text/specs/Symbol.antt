@@ -1,12 +1,13 @@
 -- Symbol lines and the comment (01, "The file", rules 5 and 6), and which inputs are controllable. Assumes nothing.
 use Prim.Native.Nat.{ℕ, zero, suc, _+_}
+use Prim.Native.Char.{code}
 use mathlib.Core.Bool.{Bool, true, false, cond, not, _&&_}
 use mathlib.Core.List.{List, [], _∷_, _++_, flatMap}
 use mathlib.Core.Option.{Option, none, some}
 use lib.Dec.{eqb, leb, ltb}
 use lib.ListN.{length, getD, drop}
 use Rattle.below.specs.Among.{among}
-use Rattle.bits.specs.Bytes.{sameBytes, startsWith}
+use Rattle.bits.specs.Bytes.{ascii, sameBytes, startsWith}
 use Rattle.circuit.specs.Outcome.{Outcome, taken, refused, _>>=_}
 use Rattle.text.specs.Header.{Header}
 use Rattle.text.specs.Number.{Num, is, bad, number, run}
@@ -17,10 +18,21 @@ pub record Symbol : Type 0 where
   pub position : ℕ
   pub name : List ℕ
 
--- how many positions a letter has: `i`, `l`, `o`; no other letter has any
+-- the letters of inputs, latches and outputs
+abbrev pub inputLetter : ℕ
+inputLetter = code "i"
+
+abbrev pub latchLetter : ℕ
+latchLetter = code "l"
+
+abbrev pub outputLetter : ℕ
+outputLetter = code "o"
+
+-- how many positions a letter has; no other letter has any
 unfoldable pub positions : Header → ℕ → ℕ
 positions h letter =
-    cond (eqb letter 105) (h .inputs) (cond (eqb letter 108) (h .latches) (cond (eqb letter 111) (h .outputs) 0))
+    cond (eqb letter inputLetter) (h .inputs)
+    (cond (eqb letter latchLetter) (h .latches) (cond (eqb letter outputLetter) (h .outputs) 0))
 
 unfoldable pub isNameByte : ℕ → Bool
 isNameByte b = leb 32 b && leb b 126
@@ -51,7 +63,7 @@ symbolOf h seen (letter ∷ t) = elim (number t) [ bad ↦ none | is position te
 
 -- a line holding only `c`
 unfoldable pub isComment : List ℕ → Bool
-isComment line = sameBytes line (99 ∷ 10 ∷ [])
+isComment line = sameBytes line (ascii "c\n")
 
 -- what stands behind the gates: symbols in file order, and the comment's bytes if a line `c` starts one
 pub record Symbols : Type 0 where
@@ -70,13 +82,12 @@ symbolLines h place seen (line ∷ rest) =
     | false ↦ orBadSymbol place (symbolOf h seen line) >>= λ s. symbolLines h (suc place) (seen ++ (s ∷ [])) rest
     ]
 
--- `controllable_`
 abbrev pub prefix : List ℕ
-prefix = 99 ∷ 111 ∷ 110 ∷ 116 ∷ 114 ∷ 111 ∷ 108 ∷ 108 ∷ 97 ∷ 98 ∷ 108 ∷ 101 ∷ 95 ∷ []
+prefix = ascii "controllable_"
 
 unfoldable pub isControllableName : List ℕ → Bool
 isControllableName name = startsWith prefix name
 
 -- an input is controllable exactly if its name starts with the prefix
 unfoldable pub isControllable : List Symbol → ℕ → Bool
-isControllable symbols position = among (λ s. names 105 position s && isControllableName (s .name)) symbols
+isControllable symbols position = among (λ s. names inputLetter position s && isControllableName (s .name)) symbols

@@ -3,6 +3,7 @@ use Prim.Native.Nat.{ℕ}
 use mathlib.Core.List.{List, [], _∷_, _++_, flatMap}
 use mathlib.Core.Option.{Option, none, some}
 use lib.ListN.{length}
+use Rattle.bits.specs.Bytes.{ascii}
 use Rattle.circuit.specs.Circuit.{Latch, Gate}
 use Rattle.text.specs.Header.{word}
 use Rattle.text.specs.Number.{decimal}
@@ -20,7 +21,7 @@ symbolLine s = s .letter ∷ decimal (s .position) ++ (32 ∷ s .name ++ (10 ∷
 
 unfoldable pub commentText : Option (List ℕ) → List ℕ
 commentText none = []
-commentText (some bytes) = 99 ∷ 10 ∷ bytes
+commentText (some bytes) = ascii "c\n" ++ bytes
 
 unfoldable pub textOf : TextFile → List ℕ
 textOf f =

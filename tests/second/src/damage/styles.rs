@@ -1,6 +1,6 @@
 //! Styles of random circuits. Counters and shifts give high ranks, traps
 //! give states outside the region, chases make the control answer the
-//! reading, soups are anything.
+//! reading, soups are anything; a haven adds states that never err.
 
 use super::net::Net;
 use super::random::Random;
@@ -12,6 +12,9 @@ pub fn fill(net: &mut Net, random: &mut Random) {
         4 | 5 => shift(net, random),
         6 | 7 => trap(net, random),
         _ => chase(net, random),
+    }
+    if net.latches() > 1 && random.chance(30) {
+        haven(net, random);
     }
     if random.chance(25) {
         disturb(net, random);
@@ -119,7 +122,7 @@ fn chase(net: &mut Net, random: &mut Random) {
         } else {
             *random.pick(&readings)
         };
-        let pair = net.xor(control, reading);
+        let pair = net.xor(control ^ random.below(2), reading);
         differ = if differ == 0 {
             pair
         } else {
@@ -153,6 +156,18 @@ fn chase(net: &mut Net, random: &mut Random) {
     };
 }
 
+/// While the last latch is 1 there is no error and it stays 1.
+fn haven(net: &mut Net, random: &mut Random) {
+    let last = net.latches() - 1;
+    let latch = net.latch(last);
+    let others = net.latch_literals()[..last].to_vec();
+    let from = formula(net, random, &others, 2);
+    let way = drive(net, random);
+    let entered = net.and(from, way);
+    net.next[last] = net.or(latch, entered);
+    net.output = net.and(net.output, latch ^ 1);
+}
+
 /// An operand, a next-state literal or the output becomes something else.
 fn disturb(net: &mut Net, random: &mut Random) {
     if !net.gates.is_empty() && random.chance(60) {
@@ -172,7 +187,7 @@ fn disturb(net: &mut Net, random: &mut Random) {
 fn drive(net: &mut Net, random: &mut Random) -> usize {
     let (readings, controls) = (net.sort(false), net.sort(true));
     let reading = one_of(random, &readings, 1);
-    let control = one_of(random, &controls, 1);
+    let control = one_of(random, &controls, 1) ^ random.below(2);
     match random.below(8) {
         0 => 1,
         1..=3 => reading,

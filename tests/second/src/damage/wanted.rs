@@ -21,17 +21,27 @@ pub enum Wanted {
 
 const TRIES: usize = 60;
 
-/// The first of some random files with this outcome, else the last of them.
+/// The first of some random files with this outcome, mostly one in which the
+/// players have something to decide, else the last of them.
 pub fn file(random: &mut Random, wanted: Wanted) -> Vec<u8> {
-    let mut bytes = Vec::new();
+    let lively_only = random.chance(65);
+    let some_held = random.chance(50);
+    let mut best = Vec::new();
+    let mut found = false;
     for _ in 0..TRIES {
         let shape = shape(random, wanted);
-        bytes = of_shape(random, shape).bytes();
-        if read(&bytes).is_ok_and(|circuit| fits(&solve(&circuit), wanted)) {
+        let bytes = of_shape(random, shape).bytes();
+        let game = read(&bytes).map(|circuit| solve(&circuit));
+        let fits_now = game.as_ref().is_ok_and(|game| fits(game, wanted));
+        if fits_now || !found {
+            best = bytes;
+            found = fits_now;
+        }
+        if fits_now && (!lively_only || game.is_ok_and(|game| lively(&game, some_held))) {
             break;
         }
     }
-    bytes
+    best
 }
 
 /// A random well-formed file without a wanted outcome.
@@ -66,7 +76,7 @@ fn shape(random: &mut Random, wanted: Wanted) -> Shape {
         Wanted::HoldsInPart => 1,
         Wanted::LosesLate => 2,
     };
-    let large = random.chance(2);
+    let large = random.chance(1);
     Shape {
         latches: random.between(least_latches, if large { 7 } else { 5 }),
         uncontrollable: random.below(if large { 6 } else { 4 }),
@@ -83,4 +93,19 @@ fn fits(game: &Game, wanted: Wanted) -> bool {
         Wanted::LosesSoon => reset == 1 || reset == 2,
         Wanted::LosesLate => reset > 2,
     }
+}
+
+/// Realizable: the reply depends on the reading. Unrealizable: there is a
+/// control, and some state is held or some attack isn't 0, as asked for.
+fn lively(game: &Game, some_held: bool) -> bool {
+    if game.realizable() {
+        let mut rows = game.replies.chunks(1 << game.uncontrollable);
+        return rows.any(|row| row.iter().any(|&reply| reply != row[0]));
+    }
+    let asked_for = if some_held {
+        game.ranks.contains(&0)
+    } else {
+        game.attacks.iter().any(|&attack| attack != 0)
+    };
+    game.controllable > 0 && asked_for
 }
