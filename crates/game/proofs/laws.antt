@@ -1,0 +1,9 @@
+pub mod Keeps
+pub mod Rounds
+pub mod Region
+pub mod Rank
+pub mod Verdict
+pub mod Reply
+pub mod Attack
+pub mod Play
+pub mod CircuitGame
