@@ -26,11 +26,11 @@ unfoldable pub solved : String → Outcome Solved
 solved file =
     circuitIn (ascii file)
     >>= λ c.
-    taken (record
-      { listing = listingOf c
-      ; fileBytes = length (ascii file)
-      ; certificateBytes = length (certificateOf (ascii file) c)
-      })
+    taken (record {
+      listing = listingOf c;
+      fileBytes = length (ascii file);
+      certificateBytes = length (certificateOf (ascii file) c);
+    })
 
 unfoldable pub answerTo : Asked → Outcome Solved
 answerTo (solve file) = solved file
@@ -53,46 +53,46 @@ pub record Row : Type 0 where
 -- a listing of these counts and lines, a file and a certificate of these lengths
 abbrev listed : Bool → List ℕ → List (List ℕ) → ℕ → ℕ → Outcome Solved
 listed realizable counts states fileBytes certificateBytes =
-    taken (record
-      { listing = record { realizable = realizable; counts = counts; states = states }
-      ; fileBytes = fileBytes
-      ; certificateBytes = certificateBytes
-      })
+    taken (record {
+      listing = record { realizable = realizable; counts = counts; states = states };
+      fileBytes = fileBytes;
+      certificateBytes = certificateBytes;
+    })
 
 abbrev pub starred : List Row
 starred =
-    record
-      { asked = solve P
-      ; expected = listed true (1 ∷ 1 ∷ 1 ∷ []) ((0 ∷ 1 ∷ 0 ∷ 1 ∷ []) ∷ (1 ∷ 1 ∷ 0 ∷ 1 ∷ []) ∷ []) 51 74
-      }
-    ∷ record
-      { asked = solve Q
-      ; expected = listed false (1 ∷ 1 ∷ 1 ∷ []) ((0 ∷ 2 ∷ 1 ∷ []) ∷ (1 ∷ 1 ∷ 1 ∷ []) ∷ []) 67 85
-      }
-    ∷ record
-      { asked = solve R
-      ; expected = listed true (1 ∷ 1 ∷ 1 ∷ []) ((0 ∷ 1 ∷ 0 ∷ 1 ∷ []) ∷ (1 ∷ 0 ∷ 0 ∷ 0 ∷ []) ∷ []) 67 90
-      }
-    ∷ record
-      { asked = solve "aag 0 0 0 1 0\n0\n"
-      ; expected = listed true (0 ∷ 0 ∷ 0 ∷ []) ((0 ∷ 1 ∷ 0 ∷ []) ∷ []) 16 36
-      }
-    ∷ record
-      { asked = solve "aag 0 0 0 1 0\n1\n"
-      ; expected = listed false (0 ∷ 0 ∷ 0 ∷ []) ((0 ∷ 1 ∷ 0 ∷ []) ∷ []) 16 31
-      }
-    ∷ record
-      { asked = solve "aag 1 1 0 1 0\n2\n2\n"
-      ; expected = listed false (0 ∷ 1 ∷ 0 ∷ []) ((0 ∷ 1 ∷ 1 ∷ []) ∷ []) 18 33
-      }
-    ∷ record
-      { asked = solve "aag 1 1 0 1 0\n2\n2\ni0 controllable_x\n"
-      ; expected = listed true (0 ∷ 0 ∷ 1 ∷ []) ((0 ∷ 1 ∷ 0 ∷ []) ∷ []) 36 56
-      }
+    record {
+      asked = solve P;
+      expected = listed true (1 ∷ 1 ∷ 1 ∷ []) ((0 ∷ 1 ∷ 0 ∷ 1 ∷ []) ∷ (1 ∷ 1 ∷ 0 ∷ 1 ∷ []) ∷ []) 51 74;
+    }
+    ∷ record {
+      asked = solve Q;
+      expected = listed false (1 ∷ 1 ∷ 1 ∷ []) ((0 ∷ 2 ∷ 1 ∷ []) ∷ (1 ∷ 1 ∷ 1 ∷ []) ∷ []) 67 85;
+    }
+    ∷ record {
+      asked = solve R;
+      expected = listed true (1 ∷ 1 ∷ 1 ∷ []) ((0 ∷ 1 ∷ 0 ∷ 1 ∷ []) ∷ (1 ∷ 0 ∷ 0 ∷ 0 ∷ []) ∷ []) 67 90;
+    }
+    ∷ record {
+      asked = solve "aag 0 0 0 1 0\n0\n";
+      expected = listed true (0 ∷ 0 ∷ 0 ∷ []) ((0 ∷ 1 ∷ 0 ∷ []) ∷ []) 16 36;
+    }
+    ∷ record {
+      asked = solve "aag 0 0 0 1 0\n1\n";
+      expected = listed false (0 ∷ 0 ∷ 0 ∷ []) ((0 ∷ 1 ∷ 0 ∷ []) ∷ []) 16 31;
+    }
+    ∷ record {
+      asked = solve "aag 1 1 0 1 0\n2\n2\n";
+      expected = listed false (0 ∷ 1 ∷ 0 ∷ []) ((0 ∷ 1 ∷ 1 ∷ []) ∷ []) 18 33;
+    }
+    ∷ record {
+      asked = solve "aag 1 1 0 1 0\n2\n2\ni0 controllable_x\n";
+      expected = listed true (0 ∷ 0 ∷ 1 ∷ []) ((0 ∷ 1 ∷ 0 ∷ []) ∷ []) 36 56;
+    }
     ∷ record { asked = solve ""; expected = refused 2 1 }
-    ∷ record
-      { asked = solve "aag 6 2 1 1 3\n2\n4\n6 4\n13\n8 2 5\n10 6 4\n12 9 15\ni1 controllable_hold\n"
-      ; expected = refused 5 8
-      }
+    ∷ record {
+      asked = solve "aag 6 2 1 1 3\n2\n4\n6 4\n13\n8 2 5\n10 6 4\n12 9 15\ni1 controllable_hold\n";
+      expected = refused 5 8;
+    }
     ∷ record { asked = check Q R; expected = refused 12 0 }
     ∷ []

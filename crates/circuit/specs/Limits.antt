@@ -15,12 +15,12 @@ pub record Limits : Type 0 where
 -- the limits of the circuit kind itself
 abbrev pub base : Limits
 base =
-    record
-    { file = 16384
-    ; variable = 1000
-    ; latches = 10
-    ; inputs = 13
-    ; uncontrollable = 5
-    ; controllable = 8
-    ; outputs = 1
+    record {
+      file = 16384;
+      variable = 1000;
+      latches = 10;
+      inputs = 13;
+      uncontrollable = 5;
+      controllable = 8;
+      outputs = 1;
     }

@@ -8,7 +8,6 @@ pub data Outcome (A : Type 0) : Type 0 where
 
 -- one after the other: the first refusal decides
 infixl 20 _>>=_ _>>_
-
 abbrev pub _>>=_ : {A B : Type 0} → Outcome A → (A → Outcome B) → Outcome B
 taken a >>= f = f a
 refused number place >>= f = refused number place

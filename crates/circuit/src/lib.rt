@@ -21,11 +21,17 @@ pub struct Circuit {
 // The limits (01, "What the library takes and gives").
 impl Circuit {
     pub const FILE: usize = 16384;
+
     pub const VARIABLES: usize = 1000;
+
     pub const LATCHES: usize = 10;
+
     pub const INPUTS: usize = 13;
+
     pub const UNCONTROLLABLE: usize = 5;
+
     pub const CONTROLLABLE: usize = 8;
+
     pub const OUTPUTS: usize = 1;
 }
 

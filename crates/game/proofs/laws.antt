@@ -1,3 +1,4 @@
+pub mod Alarms
 pub mod Keeps
 pub mod Rounds
 pub mod Region

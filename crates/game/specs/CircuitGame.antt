@@ -9,11 +9,11 @@ use Rattle.game.specs.Verdict.{realizable}
 
 unfoldable pub circuitGame : Circuit → Game
 circuitGame c =
-    record
-    { states = 2 ^ latchCount c
-    ; readings = 2 ^ uncontrollableCount c
-    ; controls = 2 ^ controllableCount c
-    ; step = step c
+    record {
+      states = 2 ^ latchCount c;
+      readings = 2 ^ uncontrollableCount c;
+      controls = 2 ^ controllableCount c;
+      step = step c;
     }
 
 unfoldable pub isRealizable : Circuit → Bool

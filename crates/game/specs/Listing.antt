@@ -26,8 +26,8 @@ attackLine g s = s ∷ rank g s ∷ attack g s ∷ []
 unfoldable pub listingOf : Circuit → Listing
 listingOf c =
     let g = circuitGame c in
-    record
-    { realizable = isRealizable c
-    ; counts = latchCount c ∷ uncontrollableCount c ∷ controllableCount c ∷ []
-    ; states = table (λ s. cond (isRealizable c) (replyLine g s) (attackLine g s)) (g .states)
+    record {
+      realizable = isRealizable c;
+      counts = latchCount c ∷ uncontrollableCount c ∷ controllableCount c ∷ [];
+      states = table (λ s. cond (isRealizable c) (replyLine g s) (attackLine g s)) (g .states);
     }

@@ -4,21 +4,20 @@ use Prim.Native.Nat.{ℕ, zero, suc, _<_}
 use mathlib.Core.Bool.{Bool, true, false, cond, not, _&&_}
 use mathlib.Core.Path.{_≡_}
 use lib.Dec.{leb, ltb}
-use Rattle.below.specs.Least.{any}
 use Rattle.game.specs.Game.{Game}
-use Rattle.game.specs.Keeps.{answered}
+use Rattle.game.specs.Keeps.{answered, safe}
 
 -- the set of states that aren't of rank 1 to k
 unfoldable pub notRanked : (ℕ → ℕ) → ℕ → (ℕ → Bool)
 notRanked ranks k = λ s. not (leb 1 (ranks s) && leb (ranks s) k)
 
--- this reading gives, under every control, error 1 or a next state of rank 1 to k
+-- this reading gives, under every control, error 1 or a next state of rank 1 to k: no control keeps out of those
 unfoldable pub defeats : Game → (ℕ → ℕ) → ℕ → (state reading : ℕ) → Bool
 defeats g ranks k s r = not (answered g (notRanked ranks k) s r)
 
 -- some reading does
 unfoldable pub defeated : Game → (ℕ → ℕ) → ℕ → (state : ℕ) → Bool
-defeated g ranks k s = any (defeats g ranks k s) (g .readings)
+defeated g ranks k s = not (safe g (notRanked ranks k) s)
 
 -- round k + 1, from the ranks of the round before, kept whole
 unfoldable pub round : Game → ℕ → (ℕ → ℕ) → (ℕ → ℕ)

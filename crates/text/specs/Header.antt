@@ -25,12 +25,12 @@ headerNumbers line = cond (startsWith word line) (numbersOf 5 (drop 4 line)) non
 
 unfoldable pub headerOf : List ℕ → Header
 headerOf fs =
-    record
-    { largest = getD fs 0 0
-    ; inputs = getD fs 1 0
-    ; latches = getD fs 2 0
-    ; outputs = getD fs 3 0
-    ; gates = getD fs 4 0
+    record {
+      largest = getD fs 0 0;
+      inputs = getD fs 1 0;
+      latches = getD fs 2 0;
+      outputs = getD fs 3 0;
+      gates = getD fs 4 0;
     }
 
 unfoldable pub withinLimits : Limits → Header → Bool

@@ -28,8 +28,8 @@ fields [] [] = some []
 fields [] (b ∷ t) = none
 fields (p ∷ ps) t =
     elim (number t) [
-      bad ↦ none
-    | is v rest ↦ elim (eqb (getD rest 0 0) p) [ true ↦ prepend v (fields ps (drop 1 rest)) | false ↦ none ]
+      | bad ↦ none
+      | is v rest ↦ elim (eqb (getD rest 0 0) p) [ true ↦ prepend v (fields ps (drop 1 rest)) | false ↦ none ]
     ]
 
 -- the separators of a line of suc n numbers: n spaces, then byte 10

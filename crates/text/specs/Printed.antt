@@ -19,14 +19,14 @@ printedSymbols position (i ∷ is) =
 
 unfoldable pub printedFile : Circuit → TextFile
 printedFile c =
-    record
-    { largest = c .largest
-    ; inputs = map (λ (i : Input). i .own) (c .inputs)
-    ; latches = c .latches
-    ; output = c .output
-    ; gates = c .gates
-    ; symbols = printedSymbols zero (c .inputs)
-    ; comment = none
+    record {
+      largest = c .largest;
+      inputs = map (λ (i : Input). i .own) (c .inputs);
+      latches = c .latches;
+      output = c .output;
+      gates = c .gates;
+      symbols = printedSymbols zero (c .inputs);
+      comment = none;
     }
 
 unfoldable pub printed : Circuit → List ℕ

@@ -36,15 +36,15 @@ linesRead h rest = do
   gates ← section (gateRule (h .largest)) (h .gates) (3 + h .inputs + h .latches) (onward output)
   used (gates .defined) (2 + h .inputs) (map (λ fs. getD fs 1 0) (latches .rows) ++ map (λ fs. getD fs 0 0) (output .rows))
   behind ← symbolLines h (3 + h .inputs + h .latches + h .gates) [] (gates .rest)
-  taken (record
-    { largest = h .largest
-    ; inputs = map (λ fs. getD fs 0 0) (inputs .rows)
-    ; latches = map latchOf (latches .rows)
-    ; output = getD (getD (output .rows) 0 []) 0 0
-    ; gates = map gateOf (gates .rows)
-    ; symbols = behind .symbols
-    ; comment = behind .comment
-    })
+  taken (record {
+    largest = h .largest;
+    inputs = map (λ fs. getD fs 0 0) (inputs .rows);
+    latches = map latchOf (latches .rows);
+    output = getD (getD (output .rows) 0 []) 0 0;
+    gates = map gateOf (gates .rows);
+    symbols = behind .symbols;
+    comment = behind .comment;
+  })
 
 unfoldable pub fileRead : Limits → List ℕ → Outcome TextFile
 fileRead limits bytes = do

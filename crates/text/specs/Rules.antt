@@ -33,18 +33,18 @@ pub record Rule : Type 0 where
 
 unfoldable pub inputRule : ℕ → Rule
 inputRule M =
-    record
-    { count = 1
-    ; defines = true
-    ; fault = λ defined fs. firstOf (badOwn M (getD fs 0 0)) (isDefined defined (getD fs 0 0)) false
+    record {
+      count = 1;
+      defines = true;
+      fault = λ defined fs. firstOf (badOwn M (getD fs 0 0)) (isDefined defined (getD fs 0 0)) false;
     }
 
 unfoldable pub latchRule : ℕ → Rule
 latchRule M =
-    record
-    { count = 2
-    ; defines = true
-    ; fault = λ defined fs. firstOf (badOwn M (getD fs 0 0) || tooLarge M (getD fs 1 0)) (isDefined defined (getD fs 0 0)) false
+    record {
+      count = 2;
+      defines = true;
+      fault = λ defined fs. firstOf (badOwn M (getD fs 0 0) || tooLarge M (getD fs 1 0)) (isDefined defined (getD fs 0 0)) false;
     }
 
 unfoldable pub outputRule : ℕ → Rule
@@ -52,12 +52,12 @@ outputRule M = record { count = 1; defines = false; fault = λ defined fs. first
 
 unfoldable pub gateRule : ℕ → Rule
 gateRule M =
-    record
-    { count = 3
-    ; defines = true
-    ; fault =
-        λ defined fs.
-        firstOf (badOwn M (getD fs 0 0) || tooLarge M (getD fs 1 0) || tooLarge M (getD fs 2 0))
-        (isDefined defined (getD fs 0 0))
-        (unknown defined (getD fs 1 0) || unknown defined (getD fs 2 0))
+    record {
+      count = 3;
+      defines = true;
+      fault =
+          λ defined fs.
+          firstOf (badOwn M (getD fs 0 0) || tooLarge M (getD fs 1 0) || tooLarge M (getD fs 2 0))
+          (isDefined defined (getD fs 0 0))
+          (unknown defined (getD fs 1 0) || unknown defined (getD fs 2 0));
     }

@@ -25,10 +25,10 @@ pub record Body : Type 0 where
 
 unfoldable pub withRow : Rule → Body → List ℕ → Body
 withRow rule b fs =
-    record
-    { rows = b .rows ++ (fs ∷ [])
-    ; defined = b .defined ++ cond (rule .defines) (variable (getD fs 0 0) ∷ []) []
-    ; rest = drop 1 (b .rest)
+    record {
+      rows = b .rows ++ (fs ∷ []);
+      defined = b .defined ++ cond (rule .defines) (variable (getD fs 0 0) ∷ []) [];
+      rest = drop 1 (b .rest);
     }
 
 -- n lines of one kind, the first of them at a place

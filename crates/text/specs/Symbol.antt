@@ -78,8 +78,8 @@ unfoldable pub symbolLines : Header → ℕ → List Symbol → List (List ℕ) 
 symbolLines h place seen [] = taken (record { symbols = seen; comment = none })
 symbolLines h place seen (line ∷ rest) =
     elim (isComment line) [
-      true ↦ taken (record { symbols = seen; comment = some (flatMap (λ l. l) rest) })
-    | false ↦ orBadSymbol place (symbolOf h seen line) >>= λ s. symbolLines h (suc place) (seen ++ (s ∷ [])) rest
+      | true ↦ taken (record { symbols = seen; comment = some (flatMap (λ l. l) rest) })
+      | false ↦ orBadSymbol place (symbolOf h seen line) >>= λ s. symbolLines h (suc place) (seen ++ (s ∷ [])) rest
     ]
 
 abbrev pub prefix : List ℕ

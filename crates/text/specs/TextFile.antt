@@ -22,12 +22,12 @@ pub record TextFile : Type 0 where
 -- the circuit that a file means
 unfoldable pub circuitOf : TextFile → Circuit
 circuitOf f =
-    record
-    { largest = f .largest
-    ; inputs = table (λ i. record { own = getD (f .inputs) i 0; controllable = isControllable (f .symbols) i }) (length (f .inputs))
-    ; latches = f .latches
-    ; output = f .output
-    ; gates = f .gates
+    record {
+      largest = f .largest;
+      inputs = table (λ i. record { own = getD (f .inputs) i 0; controllable = isControllable (f .symbols) i }) (length (f .inputs));
+      latches = f .latches;
+      output = f .output;
+      gates = f .gates;
     }
 
 -- more than 5 uncontrollable or 8 controllable

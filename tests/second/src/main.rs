@@ -32,8 +32,8 @@ fn main() -> ExitCode {
 }
 
 fn run(arguments: &[PathBuf]) -> Result<(), Trouble> {
-    let words: Vec<&str> = arguments.iter().filter_map(|a| a.to_str()).collect();
-    let command = words.first().copied().unwrap_or("");
+    let command = arguments.first().and_then(|word| word.to_str());
+    let command = command.unwrap_or("");
     match (command, arguments.get(1..).unwrap_or(&[])) {
         ("listing", files @ [_, ..]) => each(files, 1, |b| listing(&b[0])),
         ("read", files @ [_, ..]) => each(files, 1, |b| taken(&b[0])),

@@ -39,6 +39,7 @@ count-full p (suc n) i h l = by (counted p n) (count-full p n i)
   where
     here : p n ≡ true → ¬ (i < n) → p i ≡ true
     here e m = let same : i ≡ n = omega arith in rw (same, e)
+
     by : Counted p n → (n ≤ count p n → i < n → p i ≡ true) → p i ≡ true
     by (passes e c) ih = elim (decLt i n) [ yes m ↦ ih (omega arith) m | no m ↦ here e m ]
     by (fails e c) ih = absurd (omega (arith, count-most p n))
@@ -63,8 +64,10 @@ count-grows p q (suc n) j h l e f = elim (decLt j n) [ yes m ↦ below (counted 
     below (passes a c) (fails b d) ih = absurd (true≢false (sym (h n (omega arith) a) ∙ b))
     below (fails a c) (passes b d) ih = omega arith
     below (fails a c) (fails b d) ih = omega arith
+
     more : count p n ≤ count q n
     more = count-mono p q n (λ i k. h i (omega arith))
+
     here : j ≡ n → Counted p n → Counted q n → count p (suc n) < count q (suc n)
     here same (passes a c) w = absurd (true≢false (sym a ∙ ap p (sym same) ∙ e))
     here same (fails a c) (passes b d) = omega (arith, more)

@@ -52,8 +52,10 @@ least-before p (suc n) i h = by (went p n) (least-before p n i)
   where
     same : i ≡ n → p n ≡ false → p i ≡ false
     same e f = rw (e, f)
+
     up : least p n ≡ n → p n ≡ false → (i < least p n → p i ≡ false) → i < suc n → p i ≡ false
     up l f ih k = elim (decLt i n) [ yes a ↦ ih (omega arith) | no b ↦ same (omega arith) f ]
+
     by : Went p n → (i < least p n → p i ≡ false) → p i ≡ false
     by (found l e) ih = ih (omega arith)
     by (here l f e) ih = ih (omega arith)
@@ -65,6 +67,7 @@ least-is p n i h t b = elim (decLt (least p n) i) [ yes a ↦ absurd (low a) | n
   where
     low : least p n < i → ⊥
     low a = true≢false (sym (least-holds p n (omega arith)) ∙ b (least p n) a)
+
     high : i < least p n → ⊥
     high c = true≢false (sym t ∙ least-before p n i c)
 
@@ -77,8 +80,10 @@ least-same p q n e = elim (decLt (least p n) n) [ yes a ↦ sym (least-is q n (l
   where
     hit : least p n < n → q (least p n) ≡ true
     hit a = sym (e (least p n) a) ∙ least-holds p n a
+
     miss : least p n < n → (j : ℕ) → j < least p n → q j ≡ false
     miss a j h = sym (e j (omega arith)) ∙ least-before p n j h
+
     none : least p n ≡ n → least p n ≡ least q n
     none l = l ∙ sym (least-none q n (λ j h. sym (e j h) ∙ least-before p n j (omega arith)))
 

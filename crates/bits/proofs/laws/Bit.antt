@@ -51,10 +51,12 @@ bit-sum bs k h l = sym (digit-is-bit (length bs) (sum 2 bs) k l) ∙ ap (λ (ds 
 pub bits-decide : (w n m : ℕ) → n < 2 ^ w → m < 2 ^ w → ((k : ℕ) → k < w → bit n k ≡ bit m k) → n ≡ m
 bits-decide zero n m h l e = omega arith
 bits-decide (suc w) n m h l e =
-    omega
-    (arith, sym (bit-zero n) ∙ e 0 (omega arith) ∙ bit-zero m,
-    bits-decide w (n / 2) (m / 2) (omega (arith, pow-suc 2 w)) (omega (arith, pow-suc 2 w))
-    (λ k s. sym (bit-suc n k) ∙ e (suc k) (omega arith) ∙ bit-suc m k))
+    omega (
+      arith,
+      sym (bit-zero n) ∙ e 0 (omega arith) ∙ bit-zero m,
+      bits-decide w (n / 2) (m / 2) (omega (arith, pow-suc 2 w)) (omega (arith, pow-suc 2 w))
+          (λ k s. sym (bit-suc n k) ∙ e (suc k) (omega arith) ∙ bit-suc m k),
+    )
 
 with-bit-zero : (n : ℕ) → withBit n 0 ≡ n / 2 * 2 + 1
 unfolding withBit bit
@@ -93,8 +95,10 @@ with-bit-by-or n (suc k) = rw with-bit-suc (or-step n (2 ^ suc k) ∙ ap₂ (λ 
   where
     half : 2 ^ suc k / 2 ≡ 2 ^ k
     half = omega (arith, pow-suc 2 k)
+
     even : 2 ^ suc k % 2 ≡ 0
     even = omega (arith, pow-suc 2 k)
+
     zeros : max (n % 2) 0 ≡ n % 2
     zeros = omega arith
 

@@ -29,5 +29,6 @@ byte-bit-with-other bytes i j h = elim (ℕ-discrete (j / 8) (i / 8)) [ yes e �
   where
     inside : j / 8 ≡ i / 8 → i / 8 < length bytes → bit (getD (set bytes (i / 8) (withBit (getD bytes (i / 8) 0) (i % 8))) (j / 8) 0) (j % 8) ≡ bit (getD bytes (j / 8) 0) (j % 8)
     inside e l = rw (e, getD-set-same bytes (i / 8) (withBit (getD bytes (i / 8) 0) (i % 8)) 0 l) (bit-with-other (getD bytes (i / 8) 0) (i % 8) (j % 8) (λ m. h (omega arith)))
+
     there : j / 8 ≡ i / 8 → bit (getD (set bytes (i / 8) (withBit (getD bytes (i / 8) 0) (i % 8))) (j / 8) 0) (j % 8) ≡ bit (getD bytes (j / 8) 0) (j % 8)
     there e = elim (decLt (i / 8) (length bytes)) [ yes l ↦ inside e l | no l ↦ ap (λ (bs : List ℕ). bit (getD bs (j / 8) 0) (j % 8)) (set-out bytes (i / 8) (withBit (getD bytes (i / 8) 0) (i % 8)) (omega arith)) ]

@@ -40,8 +40,10 @@ digits-sum b (d ∷ ds) h = ap₂ {C = List ℕ} (λ x xs. x ∷ xs) low (ap (di
   where
     turned : d + b * sum b ds ≡ sum b ds * b + d
     turned = omega (arith, mul-comm b (sum b ds))
+
     low : (d + b * sum b ds) % b ≡ d
     low = rw turned (digits-mod (sum b ds) (h .0))
+
     high : (d + b * sum b ds) / b ≡ sum b ds
     high = rw turned (digits-div (sum b ds) (h .0))
 

@@ -46,10 +46,14 @@ module _ (g : Game) where
   unfolding safe
   safe-at set s r e h = every-at _ _ r e h
 
-  -- defeated is the opposite of safe, in the set of what isn't ranked
-  pub defeated-unsafe : (ranks : ℕ → ℕ) (k s : ℕ) → defeated g ranks k s ≡ not (safe g (notRanked ranks k) s)
+  pub safe-of : (set : ℕ → Bool) (s : ℕ) → ((r : ℕ) → r < g .readings → answered g set s r ≡ true) → safe g set s ≡ true
+  unfolding safe
+  safe-of set s h = every-of _ _ h
+
+  -- defeated: some reading defeats
+  pub defeated-by : (ranks : ℕ → ℕ) (k s : ℕ) → defeated g ranks k s ≡ any (defeats g ranks k s) (g .readings)
   unfolding defeated safe every defeats
-  defeated-unsafe ranks k s = sym (not-not _)
+  defeated-by ranks k s = not-not _
     where
       not-not : (b : Bool) → not (not b) ≡ b
       not-not true = refl

@@ -65,8 +65,10 @@ module _ (g : Game) (proper : Proper g) where
     where
       fits : (s k : ℕ) → s < g .states → rank g s ≡ suc k → defeated g (rank g) k s ≡ true
       fits s k h e = sym (settled-defeat k s (omega (arith, rank-most g (g .states) s))) ∙ born g (g .states) s k e .lost
+
       least : (s k j : ℕ) → s < g .states → rank g s ≡ suc k → j < k → defeated g (rank g) j s ≡ false
       least s k j h e l = sym (settled-defeat j s (omega (arith, rank-most g (g .states) s))) ∙ undefeated g k s j (born g (g .states) s k e .before) l
+
       never : (s j : ℕ) → s < g .states → rank g s ≡ 0 → defeated g (rank g) j s ≡ false
       never s j h e = elim (decLt j (g .states)) [ yes l ↦ sym (settled-defeat j s (omega arith)) ∙ undefeated g (g .states) s j e l | no l ↦ sym (defeated-same g proper (ranksAfter g (g .states)) (rank g) (g .states) j s (λ t m. beyond j t (omega arith))) ∙ region-undefeated g proper s h e ]
 
@@ -77,6 +79,7 @@ module _ (g : Game) (proper : Proper g) where
       where
         lost : defeated g other k s ≡ true
         lost = sym (defeated-same g proper ranks other k k s same) ∙ these .fits s k h e
+
         by : (m : ℕ) → other s ≡ m → (0 < m) × (m ≤ suc k)
         by zero f = absurd (true≢false (sym lost ∙ those .none s k h f))
         by (suc j) f = elim (decLt k j) [ yes l ↦ absurd (true≢false (sym lost ∙ those .least s j k h f l)) | no l ↦ omega arith ]
@@ -92,11 +95,12 @@ module _ (g : Game) (proper : Proper g) where
       over a b these those ih e f =
           let (low, high) = ranked-is a (suc k) s e in
           let there : (0 < b s) × (b s ≤ suc k) =
-            elim (decLt (a s) (suc k)) [
-              yes l ↦ let (p, q) = ranked-is b k s (sym (ih s h) ∙ is-ranked a k s low (omega arith)) in (p, omega arith)
+          elim (decLt (a s) (suc k)) [
+            | yes l ↦ let (p, q) = ranked-is b k s (sym (ih s h) ∙ is-ranked a k s low (omega arith)) in (p, omega arith)
             | no l ↦ carries a b these those k s h ih (omega arith)
-            ] in
+          ] in
           true≢false (sym f ∙ is-ranked b (suc k) s (there .0) (there .1))
+
       by : (a b : Bool) → notRanked ranks (suc k) s ≡ a → notRanked other (suc k) s ≡ b → ((t : ℕ) → t < g .states → notRanked ranks k t ≡ notRanked other k t) → notRanked ranks (suc k) s ≡ notRanked other (suc k) s
       by true true e f ih = e ∙ sym f
       by true false e f ih = absurd (over other ranks those these (λ t l. sym (ih t l)) f e)
@@ -109,6 +113,7 @@ module _ (g : Game) (proper : Proper g) where
     where
       bound : (a b : ℕ → ℕ) → AreRanks g a → AreRanks g b → (m : ℕ) → a s ≡ suc m → (0 < b s) × (b s ≤ suc m)
       bound a b p q m e = ranked-is b (suc m) s (sym (same-ranked a b p q (suc m) s h) ∙ is-ranked a (suc m) s (omega arith) (omega arith))
+
       by : (m n : ℕ) → ranks s ≡ m → other s ≡ n → ranks s ≡ other s
       by zero zero e f = e ∙ sym f
       by zero (suc n) e f = absurd (omega (arith, bound other ranks those these n f))

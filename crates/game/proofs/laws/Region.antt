@@ -5,12 +5,11 @@ use mathlib.Core.Bool.{Bool, true, false, not, true≢false}
 use mathlib.Core.Path.{_≡_, refl, sym, ap, _∙_}
 use lib.Dec.{ltb}
 use borrow.Author.Tests.{ltb-true, ltb-false, le-ltb, not-true, not-false}
-use Rattle.below.proofs.laws.Least.{every-of}
 use Rattle.game.specs.Game.{Game, Proper}
 use Rattle.game.specs.Keeps.{Keeps, answered, safe}
 use Rattle.game.specs.Rank.{notRanked, defeated, ranksAfter, rank, inRegion}
 use Rattle.game.specs.Region.{Closed, IsRegion}
-use Rattle.game.proofs.laws.Keeps.{answered-by, answers, safe-at, defeated-unsafe}
+use Rattle.game.proofs.laws.Keeps.{answered-by, answers, safe-at, safe-of}
 use Rattle.game.proofs.laws.Rounds.{Rounded, kept, given, passed, rounded, not-ranked-now, Still, rounds-suffice}
 
 -- a state of the region has rank 0, and one outside has another
@@ -45,15 +44,15 @@ module _ (g : Game) (proper : Proper g) where
       by (passed z d f) = d
 
   pub region-closed : Closed g (λ s. inRegion g s ≡ true)
-  unfolding Closed inRegion rank Keeps
+  unfolding Closed inRegion rank Keeps defeated
   region-closed s r h e l =
-      let still : safe g (notRanked (ranksAfter g (g .states)) (g .states)) s ≡ true = not-false _ (sym (defeated-unsafe g (ranksAfter g (g .states)) (g .states) s) ∙ region-undefeated s h (region-rank g s e)) in
+      let still : safe g (notRanked (ranksAfter g (g .states)) (g .states)) s ≡ true = not-false _ (region-undefeated s h (region-rank g s e)) in
       let (k, below, keep) = answered-by g _ s r (safe-at g _ s r still l) in
       (k, below, (keep .0, sym (not-ranked-now g (g .states) ((g .step s r k) .next)) ∙ keep .1))
 
   -- a state of a closed set never gets a rank
   pub closed-unranked : (P : ℕ → Type 0) → Closed g P → (n s : ℕ) → s < g .states → P s → ranksAfter g n s ≡ 0
-  unfolding ranksAfter Closed Keeps safe
+  unfolding ranksAfter Closed Keeps defeated
   closed-unranked P closed zero s h p = refl
   closed-unranked P closed (suc n) s h p = by (rounded g n s) (λ t. closed-unranked P closed n t)
     where
@@ -62,11 +61,10 @@ module _ (g : Game) (proper : Proper g) where
           let (k, below, keep) = closed s r h p l in
           let next : ranksAfter g n ((g .step s r k) .next) ≡ 0 = ih _ (proper .leads s r k) (keep .1) in
           answers g _ s r k below (keep .0, not-ranked-now g n _ ∙ ap not (le-ltb 0 (ranksAfter g n ((g .step s r k) .next)) (omega arith)))
-      safe-here : ((t : ℕ) → t < g .states → P t → ranksAfter g n t ≡ 0) → safe g (notRanked (ranksAfter g n) n) s ≡ true
-      safe-here ih = every-of _ _ (answer ih)
+
       by : Rounded g n s → ((t : ℕ) → t < g .states → P t → ranksAfter g n t ≡ 0) → ranksAfter g (suc n) s ≡ 0
       by (kept l f) ih = absurd (omega (arith, ih s h p))
-      by (given z d f) ih = absurd (true≢false (sym d ∙ defeated-unsafe g (ranksAfter g n) n s ∙ ap not (safe-here ih)))
+      by (given z d f) ih = absurd (true≢false (sym d ∙ ap not (safe-of g (notRanked (ranksAfter g n) n) s (answer ih))))
       by (passed z d f) ih = f
 
   pub closed-in-region : (P : ℕ → Type 0) → Closed g P → (s : ℕ) → s < g .states → P s → inRegion g s ≡ true

@@ -10,10 +10,10 @@ use lib.Dec.{leb, ltb, eqb}
 use borrow.Author.Tests.{ltb-true, ltb-false, lt-ltb, le-ltb, le-leb, lt-leb, eqb-true, eqb-false}
 use Rattle.below.specs.Least.{every}
 use Rattle.below.proofs.laws.Count.{count, count-most, count-full, count-grows}
-use Rattle.below.proofs.laws.Least.{any-same, every-at, every-fails}
+use Rattle.below.proofs.laws.Least.{every-at, every-fails, every-same}
 use Rattle.game.specs.Game.{Game, Proper}
-use Rattle.game.specs.Keeps.{answered}
-use Rattle.game.specs.Rank.{notRanked, defeats, defeated, round, ranksAfter, rank}
+use Rattle.game.specs.Keeps.{answered, safe}
+use Rattle.game.specs.Rank.{notRanked, defeated, round, ranksAfter, rank}
 use Rattle.game.proofs.laws.Keeps.{answered-same}
 
 module _ (g : Game) where
@@ -94,6 +94,7 @@ module _ (g : Game) where
     where
       here : n ≡ k → ranksAfter g n s ≡ 0 → defeated g (ranksAfter g n) n s ≡ true → Born s k
       here q z d = subst (Born s) q (record { before = z; lost = d })
+
       by : Rounded n s → (ranksAfter g n s ≡ suc k → Born s k) → Born s k
       by (kept h f) ih = ih (sym f ∙ e)
       by (given z d f) ih = here (omega arith) z d
@@ -118,13 +119,9 @@ module _ (g : Game) where
 
 module _ (g : Game) (proper : Proper g) where
   -- defeat looks only at which states are ranked
-  pub defeats-same : (ranks other : ℕ → ℕ) (k j s r : ℕ) → ((t : ℕ) → t < g .states → notRanked ranks k t ≡ notRanked other j t) → defeats g ranks k s r ≡ defeats g other j s r
-  unfolding defeats
-  defeats-same ranks other k j s r e = ap not (answered-same g (notRanked ranks k) (notRanked other j) s r (λ c. e _ (proper .leads s r c)))
-
   pub defeated-same : (ranks other : ℕ → ℕ) (k j s : ℕ) → ((t : ℕ) → t < g .states → notRanked ranks k t ≡ notRanked other j t) → defeated g ranks k s ≡ defeated g other j s
-  unfolding defeated
-  defeated-same ranks other k j s e = any-same (defeats g ranks k s) (defeats g other j s) (g .readings) (λ r h. defeats-same ranks other k j s r e)
+  unfolding defeated safe
+  defeated-same ranks other k j s e = ap not (every-same _ _ (g .readings) (λ r h. answered-same g (notRanked ranks k) (notRanked other j) s r (λ c. e _ (proper .leads s r c))))
 
   still-next : (n : ℕ) → Still g n → Still g (suc n)
   unfolding Still
@@ -132,12 +129,15 @@ module _ (g : Game) (proper : Proper g) where
     where
       same : (t : ℕ) → t < g .states → notRanked (ranksAfter g (suc n)) (suc n) t ≡ notRanked (ranksAfter g n) n t
       same t l = not-ranked-now g (suc n) t ∙ ap (λ (m : ℕ). not (ltb 0 m)) (still t l) ∙ sym (not-ranked-now g n t)
+
       again : defeated g (ranksAfter g (suc n)) (suc n) s ≡ defeated g (ranksAfter g n) n s
       again = defeated-same (ranksAfter g (suc n)) (ranksAfter g n) (suc n) n s same
+
       never : ranksAfter g (suc n) s ≡ 0 → defeated g (ranksAfter g (suc n)) (suc n) s ≡ true → Rounded g n s → ⊥
       never z d (kept l f) = omega arith
       never z d (given y e f) = omega arith
       never z d (passed y e f) = true≢false (sym d ∙ again ∙ e)
+
       by : Rounded g (suc n) s → ranksAfter g (suc (suc n)) s ≡ ranksAfter g (suc n) s
       by (kept l f) = f
       by (given z d f) = absurd (never z d (rounded g n s))
@@ -163,6 +163,7 @@ module _ (g : Game) (proper : Proper g) where
           go (kept m f) = rw f e
           go (given z d f) = absurd (omega (arith, ltb-true 0 (ranksAfter g n i) e))
           go (passed z d f) = absurd (omega (arith, ltb-true 0 (ranksAfter g n i) e))
+
       by : Rounded g n s → count (λ i. ltb 0 (ranksAfter g n i)) (g .states) < count (λ i. ltb 0 (ranksAfter g (suc n) i)) (g .states)
       by (kept l f) = absurd (changed f)
       by (given z d f) = count-grows _ _ (g .states) s keep h (le-ltb 0 (ranksAfter g n s) (omega arith)) (lt-ltb 0 (ranksAfter g (suc n) s) (omega arith))
@@ -179,6 +180,7 @@ module _ (g : Game) (proper : Proper g) where
           let (s, h, f) = every-fails _ _ e in
           let one : rankedCount n < rankedCount (suc n) = ranks-more n s h (eqb-false _ _ f) in
           omega arith
+
       by : ((j : ℕ) × (j < n) × ((s : ℕ) → s < g .states → ranksAfter g (suc j) s ≡ ranksAfter g j s)) ⊎ (n ≤ rankedCount n) → (t : Bool) → every (λ s. eqb (ranksAfter g (suc n) s) (ranksAfter g n s)) (g .states) ≡ t → ((j : ℕ) × (j < suc n) × ((s : ℕ) → s < g .states → ranksAfter g (suc j) s ≡ ranksAfter g j s)) ⊎ (suc n ≤ rankedCount (suc n))
       by (inl (j, h, still)) t e = inl (j, omega arith, still)
       by (inr m) true e = inl (n, omega arith, λ s h. eqb-true _ _ (every-at _ _ s e h))
@@ -195,6 +197,7 @@ module _ (g : Game) (proper : Proper g) where
         where
           positive : 0 < ranksAfter g (g .states) s
           positive = ltb-true _ _ (count-full _ (g .states) s m h)
+
           go : Rounded g (g .states) s → ranksAfter g (suc (g .states)) s ≡ ranksAfter g (g .states) s
           go (kept l f) = f
           go (given z d f) = absurd (omega (arith, positive))

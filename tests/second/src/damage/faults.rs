@@ -35,7 +35,7 @@ fn add(draft: &mut Draft, number: u8, random: &mut Random) {
     }
 }
 
-/// 1. Now and then a file of just the longest length, which is taken.
+/// Number 1: now and then a file of just the longest length, which is taken.
 fn too_long(draft: &mut Draft, random: &mut Random) {
     draft.comment = Some(Vec::new());
     let length = draft.bytes().len();
@@ -47,7 +47,7 @@ fn too_long(draft: &mut Draft, random: &mut Random) {
     draft.comment = Some(random.bytes(wanted.saturating_sub(length)));
 }
 
-/// 2.
+/// Number 2.
 fn first_line(draft: &mut Draft, random: &mut Random) {
     let numbers = draft.header.get(4..).unwrap_or(b"").to_vec();
     let words: [&[u8]; 9] = [
@@ -81,7 +81,7 @@ fn first_line(draft: &mut Draft, random: &mut Random) {
     }
 }
 
-/// 3.
+/// Number 3.
 fn limits(draft: &mut Draft, random: &mut Random) {
     let Some(mut n) = draft.header_numbers() else {
         return;
@@ -104,7 +104,7 @@ fn limits(draft: &mut Draft, random: &mut Random) {
     draft.set_header(&n);
 }
 
-/// 4.
+/// Number 4.
 fn malformed(draft: &mut Draft, random: &mut Random) {
     let line = random.below(draft.body.len().max(1));
     match random.below(10) {
@@ -128,7 +128,7 @@ fn malformed(draft: &mut Draft, random: &mut Random) {
     }
 }
 
-/// 5.
+/// Number 5.
 fn literal(draft: &mut Draft, random: &mut Random) {
     let Some(n) = draft.header_numbers() else {
         return;
@@ -155,7 +155,7 @@ fn literal(draft: &mut Draft, random: &mut Random) {
     draft.set_literals(line, &literals);
 }
 
-/// 6.
+/// Number 6.
 fn twice(draft: &mut Draft, random: &mut Random) {
     let Some(n) = draft.header_numbers() else {
         return;
@@ -173,8 +173,8 @@ fn twice(draft: &mut Draft, random: &mut Random) {
     draft.set_literals(other, &second);
 }
 
-/// 7. An operand, a next-state literal or the output that nothing defines in
-/// time.
+/// Number 7: an operand, a next-state literal or the output that nothing
+/// defines in time.
 fn undefined(draft: &mut Draft, random: &mut Random) {
     let Some(mut n) = draft.header_numbers() else {
         return;
@@ -206,7 +206,7 @@ fn undefined(draft: &mut Draft, random: &mut Random) {
     draft.set_literals(line, &literals);
 }
 
-/// 9. Too many inputs of one sort, all else well.
+/// Number 9: too many inputs of one sort, all else well.
 fn too_many(random: &mut Random) -> Draft {
     let (uncontrollable, controllable) = if random.chance(50) {
         let uncontrollable = random.between(6, 13);

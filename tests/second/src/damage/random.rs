@@ -11,11 +11,11 @@ impl Random {
 
     /// A stream of its own for each index.
     pub fn of(seed: u64, index: u64) -> Self {
-        let start = Random::new(seed).next();
-        Random::new(start ^ Random::new(index).next())
+        let start = Random::new(seed).number();
+        Random::new(start ^ Random::new(index).number())
     }
 
-    pub fn next(&mut self) -> u64 {
+    pub fn number(&mut self) -> u64 {
         self.state = self.state.wrapping_add(0x9E37_79B9_7F4A_7C15);
         let mut z = self.state;
         z = (z ^ (z >> 30)).wrapping_mul(0xBF58_476D_1CE4_E5B9);
@@ -25,7 +25,7 @@ impl Random {
 
     /// A number below `count`, which isn't 0.
     pub fn below(&mut self, count: usize) -> usize {
-        (self.next() % count as u64) as usize
+        (self.number() % count as u64) as usize
     }
 
     /// A number from `low` to `high`, both included.
@@ -39,7 +39,7 @@ impl Random {
     }
 
     pub fn byte(&mut self) -> u8 {
-        self.next() as u8
+        self.number() as u8
     }
 
     pub fn bytes(&mut self, count: usize) -> Vec<u8> {
