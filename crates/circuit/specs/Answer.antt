@@ -1,15 +1,35 @@
--- What an answer of the code says in 01's words (01, "The numbers"): the number and the place of a refusal, and the count of the bytes
--- that a writer wrote. Assumes nothing.
+-- What the answers of the code say in 01's words (01, "The numbers"): number and place of a refusal, the circuit that was read, the count of
+-- the bytes that a writer wrote. Assumes nothing.
 use Prim.Native.Nat.{ℕ}
 use mathlib.Core.List.{List, _++_}
+use mathlib.Core.Path.{_≡_}
 use lib.ListN.{length, drop}
+use Rattle.circuit.specs.declared.FileRead.{FileRead}
+use Rattle.circuit.specs.declared.Read.{Read}
+use Rattle.circuit.specs.declared.Read.the-variants.{Taken, Refused as ReadRefused}
 use Rattle.circuit.specs.declared.Written.{Written}
-use Rattle.circuit.specs.declared.Written.the-variants.{Bytes, Refused}
+use Rattle.circuit.specs.declared.Written.the-variants.{Bytes, Refused as WrittenRefused}
+use Rattle.circuit.specs.Circuit.{Circuit}
 use Rattle.circuit.specs.Outcome.{Outcome, taken, refused, _>>=_}
+use Rattle.circuit.specs.Stored.{stored, emptyCircuit}
+
+unfoldable pub readOutcome : Read → Outcome (Unit {0})
+readOutcome Taken = taken tt
+readOutcome (ReadRefused r) = refused (r .number) (r .place)
+
+-- the circuit, or the empty one after a refusal
+unfoldable pub circuitOr : Outcome Circuit → Circuit
+circuitOr (taken c) = c
+circuitOr (refused number place) = emptyCircuit
+
+-- a reader's answer says how reading came out
+pub record ReadAs (outcome : Outcome Circuit) (r : FileRead) : Type 0 where
+  pub answer : readOutcome (r .answer) ≡ (outcome >>= λ c. taken tt)
+  pub circuit : r .circuit ≡ stored (circuitOr outcome)
 
 unfoldable pub writtenOutcome : Written → Outcome ℕ
 writtenOutcome (Bytes n) = taken n
-writtenOutcome (Refused r) = refused (r .number) (r .place)
+writtenOutcome (WrittenRefused r) = refused (r .number) (r .place)
 
 -- the count of what is written
 unfoldable pub countOf : Outcome (List ℕ) → Outcome ℕ

@@ -8,14 +8,14 @@ pub struct Circuit {
     pub inputs: usize,
     pub latches: usize,
     pub gates: usize,
-    pub input_own: [u16; Circuit::INPUTS],
-    pub input_controllable: [u8; Circuit::INPUTS],
-    pub latch_own: [u16; Circuit::LATCHES],
-    pub latch_next: [u16; Circuit::LATCHES],
+    pub input: [u16; Circuit::INPUTS],
+    pub controllable: [u8; Circuit::INPUTS],
+    pub latch: [u16; Circuit::LATCHES],
+    pub next: [u16; Circuit::LATCHES],
     pub output: u16,
-    pub gate_own: [u16; Circuit::VARIABLES],
-    pub gate_left: [u16; Circuit::VARIABLES],
-    pub gate_right: [u16; Circuit::VARIABLES],
+    pub gate: [u16; Circuit::VARIABLES],
+    pub left: [u16; Circuit::VARIABLES],
+    pub right: [u16; Circuit::VARIABLES],
 }
 
 // The limits (01, "What the library takes and gives").
@@ -39,6 +39,17 @@ impl Circuit {
 pub struct Refusal {
     pub number: u8,
     pub place: usize,
+}
+
+// What a reader answers, with the circuit beside it: an enum can't hold an array. After a refusal it is the empty circuit.
+pub enum Read {
+    Taken,
+    Refused(Refusal),
+}
+
+pub struct FileRead {
+    pub answer: Read,
+    pub circuit: Circuit,
 }
 
 // What a writer answers: how many bytes it wrote at the front of the buffer, or why it wrote none.

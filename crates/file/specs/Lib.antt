@@ -1,2 +1,1 @@
 pub mod CircuitIn
-pub mod Answer

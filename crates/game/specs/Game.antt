@@ -1,7 +1,7 @@
 -- A game (01, "The game"): how many states, readings and controls there are, and a step function. States, readings and controls are the
 -- numbers below their counts. Assumes nothing.
 use Prim.Native.Nat.{ℕ, _<_}
-use Rattle.step.specs.Step.{Stepped}
+use Rattle.step.specs.declared.Stepped.{Stepped}
 
 pub record Game : Type 0 where
   pub states : ℕ

@@ -6,11 +6,8 @@ use mathlib.Core.List.{map}
 use Rattle.bits.specs.Bit.{oneIf}
 use Rattle.bits.specs.Digits.{sum}
 use Rattle.circuit.specs.Circuit.{Circuit, Latch}
+use Rattle.step.specs.declared.Stepped.{Stepped}
 use Rattle.step.specs.Value.{Valuation, literalValue, valuation}
-
-pub record Stepped : Type 0 where
-  pub error : Bool
-  pub next : ℕ
 
 unfoldable pub errorOf : Circuit → (state reading control : ℕ) → Bool
 errorOf c s r k = literalValue (valuation c s r k) (c .output)

@@ -7,7 +7,7 @@ use Rattle.bits.specs.Bit.{odd, oneIf}
 use Rattle.bits.specs.Digits.{sum}
 use Rattle.circuit.specs.Circuit.{Circuit, Input, Latch, Gate}
 use Rattle.circuit.specs.Literal.{variable, inverted, constant}
-use Rattle.step.specs.Step.{Stepped, step, errorOf, nextOf}
+use Rattle.step.specs.Step.{step, errorOf, nextOf}
 use Rattle.step.specs.Value.{literalValue, put, withInputs, withLatches, withGates, valuation}
 
 -- the latch takes the control; the error is latch and not control
