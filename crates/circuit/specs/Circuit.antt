@@ -1,9 +1,11 @@
 -- A circuit (01, "The file", rules 1, 2 and 4, and the sentence on controllable inputs): what its text means, lines in the order of the
 -- file. Names, comment and the spelling of the file are no part of it. Assumes nothing.
 use Prim.Native.Nat.{ℕ, zero, suc}
-use mathlib.Core.Bool.{Bool, cond, not}
+use mathlib.Core.Bool.{Bool, cond, not, _||_}
 use mathlib.Core.List.{List, [], _∷_}
+use lib.Dec.{ltb}
 use lib.ListN.{length}
+use Rattle.circuit.specs.Limits.{Limits}
 
 -- an input's literal, and whether it is controllable
 pub record Input : Type 0 where
@@ -42,3 +44,8 @@ uncontrollableCount c = inputsThat (λ i. not (i .controllable)) (c .inputs)
 
 unfoldable pub controllableCount : Circuit → ℕ
 controllableCount c = inputsThat (λ i. i .controllable) (c .inputs)
+
+-- more than 5 uncontrollable or 8 controllable inputs (01, "The numbers", 9)
+unfoldable pub tooMany : Limits → Circuit → Bool
+tooMany limits c =
+    ltb (limits .uncontrollable) (uncontrollableCount c) || ltb (limits .controllable) (controllableCount c)

@@ -33,6 +33,17 @@ impl Circuit {
     pub const CONTROLLABLE: usize = 8;
 
     pub const OUTPUTS: usize = 1;
+
+    // How many states, readings and controls there can be, and replies and variables, the constant among them.
+    pub const STATES: usize = 1 << Circuit::LATCHES;
+
+    pub const READINGS: usize = 1 << Circuit::UNCONTROLLABLE;
+
+    pub const CONTROLS: usize = 1 << Circuit::CONTROLLABLE;
+
+    pub const REPLIES: usize = Circuit::STATES * Circuit::READINGS;
+
+    pub const VALUES: usize = Circuit::VARIABLES + 1;
 }
 
 // A refusal (01, "The numbers").

@@ -5,7 +5,7 @@ use mathlib.Core.List.{List, [], _∷_, _++_, map}
 use mathlib.Core.Option.{Option, none, some}
 use lib.Dec.{ltb}
 use lib.ListN.{length, getD, drop}
-use Rattle.circuit.specs.Circuit.{Circuit, Latch, Gate}
+use Rattle.circuit.specs.Circuit.{Circuit, Latch, Gate, tooMany}
 use Rattle.circuit.specs.Limits.{Limits}
 use Rattle.circuit.specs.Outcome.{Outcome, taken, refused, _>>=_, _>>_, refuseIf}
 use Rattle.text.specs.Header.{Header, headerNumbers, headerOf, withinLimits}
@@ -14,7 +14,7 @@ use Rattle.text.specs.Numbers.{fileTooLong, badHeader, headerLimit, tooM
 use Rattle.text.specs.Rules.{inputRule, latchRule, outputRule, gateRule}
 use Rattle.text.specs.Section.{Body, section, onward, used}
 use Rattle.text.specs.Symbol.{symbolLines}
-use Rattle.text.specs.TextFile.{TextFile, circuitOf, tooMany}
+use Rattle.text.specs.TextFile.{TextFile, circuitOf}
 
 unfoldable pub latchOf : List ℕ → Latch
 latchOf fs = record { own = getD fs 0 0; next = getD fs 1 0 }

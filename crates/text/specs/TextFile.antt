@@ -1,13 +1,10 @@
 -- A file as its text says it (01, "The file", rules 1 to 6), and the circuit that it means. Assumes nothing.
 use Prim.Native.Nat.{ℕ}
-use mathlib.Core.Bool.{Bool, _||_}
 use mathlib.Core.List.{List}
 use mathlib.Core.Option.{Option}
-use lib.Dec.{ltb}
 use lib.ListN.{length, getD}
 use Rattle.below.specs.Table.{table}
-use Rattle.circuit.specs.Circuit.{Circuit, Input, Latch, Gate, uncontrollableCount, controllableCount}
-use Rattle.circuit.specs.Limits.{Limits}
+use Rattle.circuit.specs.Circuit.{Circuit, Input, Latch, Gate}
 use Rattle.text.specs.Symbol.{Symbol, isControllable}
 
 pub record TextFile : Type 0 where
@@ -29,8 +26,3 @@ circuitOf f =
       output = f .output;
       gates = f .gates;
     }
-
--- more than 5 uncontrollable or 8 controllable
-unfoldable pub tooMany : Limits → Circuit → Bool
-tooMany limits c =
-    ltb (limits .uncontrollable) (uncontrollableCount c) || ltb (limits .controllable) (controllableCount c)

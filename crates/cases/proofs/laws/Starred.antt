@@ -9,7 +9,7 @@ use Rattle.bits.specs.Digits.{digits, sum}
 use Rattle.below.specs.Among.{among, member}
 use Rattle.below.specs.Least.{least, any, every}
 use Rattle.below.specs.Table.{table}
-use Rattle.circuit.specs.Circuit.{inputsThat, latchCount, uncontrollableCount, controllableCount}
+use Rattle.circuit.specs.Circuit.{inputsThat, latchCount, uncontrollableCount, controllableCount, tooMany}
 use Rattle.circuit.specs.Literal.{variable, inverted, constant, mayDefine, tooLarge}
 use Rattle.circuit.specs.Outcome.{refuseIf}
 use Rattle.circuit.specs.Reset.{isReset}
@@ -20,7 +20,7 @@ use Rattle.text.specs.Read.{latchOf, gateOf, orBadHeader, linesRead, fileRead, 
 use Rattle.text.specs.Rules.{firstOf, badOwn, isDefined, unknown, inputRule, latchRule, outputRule, gateRule}
 use Rattle.text.specs.Section.{judged, withRow, section, onward, used}
 use Rattle.text.specs.Symbol.{positions, isNameByte, isName, names, symbolAt, symbolOf, isComment, orBadSymbol, symbolLines, isControllableName, isControllable}
-use Rattle.text.specs.TextFile.{circuitOf, tooMany}
+use Rattle.text.specs.TextFile.{circuitOf}
 use Rattle.step.specs.Step.{errorOf, nextOf, step}
 use Rattle.step.specs.Value.{literalValue, put, withInputs, withLatches, withGates, valuation}
 use Rattle.game.specs.Attack.{attack, attackBroken}
