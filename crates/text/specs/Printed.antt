@@ -4,7 +4,9 @@ use Prim.Native.Nat.{ℕ, zero, suc}
 use mathlib.Core.Bool.{cond}
 use mathlib.Core.List.{List, [], _∷_, _++_, map}
 use mathlib.Core.Option.{none}
+use Rattle.circuit.specs.Answer.{fitted}
 use Rattle.circuit.specs.Circuit.{Circuit, Input}
+use Rattle.circuit.specs.Outcome.{Outcome}
 use Rattle.text.specs.Number.{decimal}
 use Rattle.text.specs.Symbol.{Symbol, inputLetter, prefix}
 use Rattle.text.specs.TextFile.{TextFile}
@@ -31,3 +33,7 @@ printedFile c =
 
 unfoldable pub printed : Circuit → List ℕ
 printed c = textOf (printedFile c)
+
+-- what is printed of a circuit, given room for so many bytes
+unfoldable pub printedInto : Circuit → ℕ → Outcome (List ℕ)
+printedInto c room = fitted (printed c) room

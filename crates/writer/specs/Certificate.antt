@@ -3,10 +3,9 @@
 use Prim.Native.Nat.{ℕ}
 use mathlib.Core.Bool.{cond}
 use mathlib.Core.List.{List, _++_}
-use lib.Dec.{ltb}
-use lib.ListN.{length}
+use Rattle.circuit.specs.Answer.{fitted}
 use Rattle.circuit.specs.Circuit.{Circuit, latchCount, uncontrollableCount}
-use Rattle.circuit.specs.Outcome.{Outcome, taken, refused, _>>=_, _>>_, refuseIf}
+use Rattle.circuit.specs.Outcome.{Outcome, _>>=_}
 use Rattle.file.specs.CircuitIn.{circuitIn}
 use Rattle.game.specs.Attack.{attack}
 use Rattle.game.specs.CircuitGame.{circuitGame, isRealizable}
@@ -16,10 +15,6 @@ use Rattle.records.specs.AttackTable.{attackBytes}
 use Rattle.records.specs.Record.{recordOf, circuitKind, regionKind, replyKind, attackKind}
 use Rattle.records.specs.RegionBits.{regionBytes}
 use Rattle.records.specs.ReplyBytes.{replyBytes}
-
--- lent buffer shorter than what must be written
-abbrev pub noRoom : ℕ
-noRoom = 10
 
 unfoldable pub replyCertificate : List ℕ → Circuit → List ℕ
 replyCertificate file c =
@@ -37,7 +32,4 @@ certificateOf file c = cond (isRealizable c) (replyCertificate file c) (attackCe
 
 -- what is written for a file, given room for so many bytes
 unfoldable pub certified : List ℕ → ℕ → Outcome (List ℕ)
-certified file room = do
-  c ← circuitIn file
-  refuseIf (ltb room (length (certificateOf file c))) noRoom 0
-  taken (certificateOf file c)
+certified file room = circuitIn file >>= λ c. fitted (certificateOf file c) room
