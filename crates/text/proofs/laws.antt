@@ -1,1 +1,4 @@
 pub mod Alarms
+pub mod Position
+pub mod PositionNumber
+pub mod PositionFields

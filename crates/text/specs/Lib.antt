@@ -1,6 +1,8 @@
 pub mod Numbers
 pub mod Number
 pub mod Line
+pub mod NumberAt
+pub mod RowAt
 pub mod Header
 pub mod Rules
 pub mod Section

@@ -17,6 +17,10 @@ unfoldable pub lines : List ℕ → List (List ℕ)
 lines [] = []
 lines (b ∷ s) = let rest = lines s in cond (eqb b 10) ((b ∷ []) ∷ rest) (before b rest)
 
+-- the first line of a text
+unfoldable pub firstLine : List ℕ → List ℕ
+firstLine t = getD (lines t) 0 []
+
 -- what is read so far, before what the rest holds
 unfoldable pub prepend : ℕ → Option (List ℕ) → Option (List ℕ)
 prepend v none = none

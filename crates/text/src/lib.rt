@@ -1,1 +1,4 @@
-// The text form of AIGER (01, "The file"): its definitions (specs/) and their laws (proofs/laws/).
+// The text form of AIGER (01, "The file"): definitions (specs/), their laws (proofs/laws/), and the reader.
+mod fields;
+mod line;
+mod number;
