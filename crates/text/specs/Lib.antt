@@ -3,6 +3,7 @@ pub mod Number
 pub mod Line
 pub mod NumberAt
 pub mod RowAt
+pub mod Marks
 pub mod Header
 pub mod Rules
 pub mod Section
