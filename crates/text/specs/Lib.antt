@@ -7,6 +7,8 @@ pub mod Marks
 pub mod Header
 pub mod Rules
 pub mod Section
+pub mod LinedAs
+pub mod SectionAs
 pub mod Symbol
 pub mod TextFile
 pub mod Read

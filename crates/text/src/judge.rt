@@ -1,5 +1,6 @@
 // What the literals of a line call for (01, "The file", rules 3 and 4; "The numbers", 5 to 7).
 ghost use Prim.Native.Nat.{ℕ, _≤_, _<_, _+_, _*_};
+ghost use mathlib.Core.Bool.{_||_};
 ghost use mathlib.Core.Path.{_≡_};
 ghost use Rattle.circuit.specs.Literal.{mayDefine, tooLarge, constant};
 ghost use Rattle.text.specs.Marks.{marked, unmarked, numberOr};
@@ -50,6 +51,15 @@ pub fn is_unknown(defined: &[u8], l: u32) -> bool
         return false;
     }
     true
+}
+
+pub fn either(a: bool, b: bool) -> bool
+    ensures { λ r. ⌜ r ≡ (a || b) ⌝ }
+{
+    if a {
+        return true;
+    }
+    b
 }
 
 // The first of 5, 6 and 7 that applies, or 0.

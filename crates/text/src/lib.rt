@@ -1,4 +1,5 @@
 // The text form of AIGER (01, "The file"): definitions (specs/), their laws (proofs/laws/), and the reader.
+mod body;
 mod fields;
 mod judge;
 mod line;

@@ -4,7 +4,7 @@ use native.Mathlib.Omega.{arith}
 use native.Mathlib.Nat.{not-suc-le-zero, add-zero}
 use native.Mathlib.Decide.{decLt}
 use mathlib.Core.List.{List, [], _∷_, _++_}
-use mathlib.Core.Path.{_≡_, refl, sym, ap, _∙_}
+use mathlib.Core.Path.{_≡_, refl, sym, ap, ap₂, _∙_}
 use lib.ListN.{length, getD, length-append, List·getD-append, List·getD-eq-default}
 use lib.Seq.{getD-at}
 use Rattle.below.specs.Table.{table}
@@ -25,3 +25,9 @@ module _ {ℓ} {A : Type ℓ} where
 
   pub getD-table-past : (f : ℕ → A) (n i : ℕ) (d : A) → n ≤ i → getD (table f n) i d ≡ d
   getD-table-past f n i d h = List·getD-eq-default (table f n) d (omega (arith, length-table f n))
+
+  -- tables of what agrees below the bound are the same
+  pub table-same : (f g : ℕ → A) (n : ℕ) → ((i : ℕ) → i < n → f i ≡ g i) → table f n ≡ table g n
+  unfolding table
+  table-same f g zero e = refl
+  table-same f g (suc n) e = ap₂ {C = List A} (λ l x. l ++ (x ∷ [])) (table-same f g n (λ i h. e i (omega arith))) (e n (omega arith))

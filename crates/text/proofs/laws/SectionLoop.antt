@@ -1,0 +1,99 @@
+-- A section read line by line: what is left of it equals the whole. Assumes nothing.
+use Prim.Native.Nat.{ℕ, zero, suc, _+_, _-_, _<_, _≤_}
+use native.Mathlib.Decide.{ℕ-discrete}
+use native.Mathlib.Numerals.{add-one}
+use native.Mathlib.Omega.{arith}
+use native.Mathlib.Nat.{add-zero, sub-zero, sub-self, add-suc}
+use mathlib.Core.Bool.{Bool, true, false, cond, _||_}
+use mathlib.Core.List.{List, [], _∷_, _++_}
+use mathlib.Core.Option.{Option}
+use mathlib.Core.Path.{_≡_, refl, sym, ap, ap₂, _∙_, subst}
+use lib.Dec.{eqb}
+use lib.ListN.{length, getD, drop, set}
+use lib.Seq.{drop-drop, getD-set-same, getD-set-other}
+use borrow.Author.Tests.{eq-eqb, ne-eqb}
+use Rattle.below.specs.Among.{member}
+use Rattle.below.specs.Table.{table}
+use Rattle.below.proofs.laws.Among.{member-snoc}
+use Rattle.below.proofs.laws.Table.{table-same}
+use Rattle.circuit.specs.Literal.{variable}
+use Rattle.circuit.specs.Outcome.{Outcome, taken, refused, _>>=_}
+use Rattle.text.specs.Line.{lines, firstLine, numbersOf}
+use Rattle.text.specs.Marks.{Marks}
+use Rattle.text.specs.Rules.{Rule}
+use Rattle.text.specs.Section.{Body, judged, withRow, section}
+use Rattle.text.specs.SectionAs.{beginning, ReadTo}
+use Rattle.text.proofs.laws.Position.{lines-behind}
+
+-- one more variable is defined and marked
+pub mark-more : (marks defined : List ℕ) (v : ℕ) → v < length marks → Marks marks defined → Marks (set marks v 1) (defined ++ (v ∷ []))
+unfolding Marks
+mark-more marks defined v h says w = elim (ℕ-discrete w v) [ yes e ↦ same e | no d ↦ other d ] ∙ sym (member-snoc w defined v)
+  where
+    or-true : (b : Bool) → (b || true) ≡ true
+    or-true true = refl
+    or-true false = refl
+    or-false : (b : Bool) → (b || false) ≡ b
+    or-false true = refl
+    or-false false = refl
+    same : w ≡ v → eqb (getD (set marks v 1) w 0) 1 ≡ (member w defined || eqb w v)
+    same e = rw (e, getD-set-same marks v 1 0 h, eq-eqb v v refl) (sym (or-true (member v defined)))
+    other : (w ≡ v → ⊥) → eqb (getD (set marks v 1) w 0) 1 ≡ (member w defined || eqb w v)
+    other d = rw (getD-set-other marks v w 1 0 d, ne-eqb w v d) (says w ∙ sym (or-false (member w defined)))
+
+module _ (rule : Rule) (n place : ℕ) (s : List ℕ) (start : ℕ) (defined₀ : List ℕ) where
+  -- i lines are read, up to a place
+  pub record Reading (marks : List ℕ) (row : ℕ → List ℕ) (at i : ℕ) : Type 0 where
+    pub defined : List ℕ
+    pub says : Marks marks defined
+    pub whole : section rule n place (beginning s start defined₀) ≡ section rule (n - i) (place + i) (record { rows = table row i; defined = defined; rest = lines (drop at s) })
+    pub count : i ≤ n
+
+  pub reading-starts : (marks : List ℕ) (row : ℕ → List ℕ) → Marks marks defined₀ → Reading marks row start 0
+  unfolding beginning table
+  reading-starts marks row says = record { defined = defined₀; says = says; whole = rw (sub-zero, add-zero); count = omega arith }
+
+  module _ (marks : List ℕ) (row : ℕ → List ℕ) (at i : ℕ) (w : Reading marks row at i) (more : i < n) where
+    -- the next line decides how the section goes on
+    next-line : section rule n place (beginning s start defined₀) ≡ (judged rule (w .defined) (place + i) (numbersOf (rule .count) (firstLine (drop at s))) >>= λ fs. section rule (n - suc i) (suc (place + i)) (withRow rule (record { rows = table row i; defined = w .defined; rest = lines (drop at s) }) fs))
+    unfolding section firstLine
+    next-line = w .whole ∙ ap (λ (m : ℕ). section rule m (place + i) (record { rows = table row i; defined = w .defined; rest = lines (drop at s) })) left
+      where
+        left : n - i ≡ suc (n - suc i)
+        left = omega arith
+
+    pub reading-refuses : (number : ℕ) → judged rule (w .defined) (place + i) (numbersOf (rule .count) (firstLine (drop at s))) ≡ refused number (place + i) → section rule n place (beginning s start defined₀) ≡ refused number (place + i)
+    reading-refuses number e = next-line ∙ rw e
+
+    pub reading-goes-on : (fs : List ℕ) (marks′ : List ℕ) (row′ : ℕ → List ℕ) (next : ℕ) → judged rule (w .defined) (place + i) (numbersOf (rule .count) (firstLine (drop at s))) ≡ taken fs → next ≡ at + length (firstLine (drop at s)) → ((j : ℕ) → j < i → row j ≡ row′ j) → row′ i ≡ fs → Marks marks′ (w .defined ++ cond (rule .defines) (variable (getD fs 0 0) ∷ []) []) → Reading marks′ row′ next (i + 1)
+    unfolding withRow table
+    reading-goes-on fs marks′ row′ next e ends same here says =
+        rw add-one
+        (record
+        { defined = w .defined ++ cond (rule .defines) (variable (getD fs 0 0) ∷ []) []
+        ; says = says
+        ; whole = next-line ∙ rw e (ap₂ {C = Outcome Body} (λ m b. section rule (n - suc i) m b) (sym (add-suc place i)) body)
+        ; count = more
+        })
+      where
+        rest : drop 1 (lines (drop at s)) ≡ lines (drop next s)
+        rest = lines-behind (drop at s) ∙ ap lines (drop-drop (length (firstLine (drop at s))) at s ∙ ap (λ (m : ℕ). drop m s) (sym ends))
+        rows : table row i ++ (fs ∷ []) ≡ table row′ i ++ (row′ i ∷ [])
+        rows = ap₂ {C = List (List ℕ)} (λ l x. l ++ (x ∷ [])) (table-same row row′ i same) (sym here)
+        body : withRow rule (record { rows = table row i; defined = w .defined; rest = lines (drop at s) }) fs ≡ record { rows = table row′ (suc i); defined = w .defined ++ cond (rule .defines) (variable (getD fs 0 0) ∷ []) []; rest = lines (drop next s) }
+        body = λ x. record { rows = rows x; defined = w .defined ++ cond (rule .defines) (variable (getD fs 0 0) ∷ []) []; rest = rest x }
+
+  pub reading-ends : (before marks : List ℕ) (row : ℕ → List ℕ) (at i : ℕ) → Reading marks row at i → n ≤ i → at ≤ length s → ReadTo rule n place s start before marks row at defined₀
+  unfolding section
+  reading-ends before marks row at i w done within =
+      record
+      { defines = w .defined
+      ; says = w .says
+      ; whole = w .whole ∙ subst (λ (m : ℕ). section rule m (place + i) (record { rows = table row i; defined = w .defined; rest = lines (drop at s) }) ≡ taken (record { rows = table row n; defined = w .defined; rest = lines (drop at s) })) (sym none) (ap (λ (m : ℕ). taken (record { rows = table row m; defined = w .defined; rest = lines (drop at s) })) all)
+      ; within = within
+      }
+    where
+      none : n - i ≡ 0
+      none = omega arith
+      all : i ≡ n
+      all = omega (arith, w .count)

@@ -1,0 +1,85 @@
+// One line before the symbols (01, "The file", rule 2): its numbers, or the first of 4, 5, 6 and 7 that applies to it.
+use circuit::Refusal;
+use crate::fields::{one, three, two, Row};
+use crate::judge::{bad_own, either, first_of, is_marked, is_unknown, too_large};
+ghost use Prim.Native.Nat.{_≤_};
+ghost use Rattle.circuit.specs.Limits.{base};
+ghost use Rattle.text.specs.LinedAs.{LinedAs};
+ghost use Rattle.text.specs.Rules.{inputRule, latchRule, outputRule, gateRule};
+ghost use mathlib.Core.List.{[]};
+
+// A line's literals; what isn't there is 0.
+pub enum Lined {
+    Row(u16, u16, u16),
+    Fault(u8),
+}
+
+// How a section came out: the place behind it, or a refusal.
+pub enum Sectioned {
+    Done(usize),
+    Refused(Refusal),
+}
+
+fn input_line(line: &[u8], m: u16, defined: &[u8]) -> Lined
+    requires { ⌜ m ≤ base .variable ⌝ }
+    ensures { λ r. ⌜ LinedAs (inputRule m) (now (defined .entry)) (now (line .entry)) r ⌝ }
+{
+    let Row::Of(own, _, _, _, _) = one(line) else {
+        return Lined::Fault(4);
+    };
+    let bad = bad_own(m, own);
+    let twice = is_marked(defined, own);
+    let number = first_of(bad, twice, false);
+    if number == 0 {
+        return Lined::Row(own as u16, 0, 0);
+    }
+    Lined::Fault(number)
+}
+
+fn latch_line(line: &[u8], m: u16, defined: &[u8]) -> Lined
+    requires { ⌜ m ≤ base .variable ⌝ }
+    ensures { λ r. ⌜ LinedAs (latchRule m) (now (defined .entry)) (now (line .entry)) r ⌝ }
+{
+    let Row::Of(own, next, _, _, _) = two(line) else {
+        return Lined::Fault(4);
+    };
+    let bad = either(bad_own(m, own), too_large(m, next));
+    let twice = is_marked(defined, own);
+    let number = first_of(bad, twice, false);
+    if number == 0 {
+        return Lined::Row(own as u16, next as u16, 0);
+    }
+    Lined::Fault(number)
+}
+
+fn output_line(line: &[u8], m: u16) -> Lined
+    requires { ⌜ m ≤ base .variable ⌝ }
+    ensures { λ r. ⌜ LinedAs (outputRule m) [] (now (line .entry)) r ⌝ }
+{
+    let Row::Of(literal, _, _, _, _) = one(line) else {
+        return Lined::Fault(4);
+    };
+    let large = too_large(m, literal);
+    let number = first_of(large, false, false);
+    if number == 0 {
+        return Lined::Row(literal as u16, 0, 0);
+    }
+    Lined::Fault(number)
+}
+
+fn gate_line(line: &[u8], m: u16, defined: &[u8]) -> Lined
+    requires { ⌜ m ≤ base .variable ⌝ }
+    ensures { λ r. ⌜ LinedAs (gateRule m) (now (defined .entry)) (now (line .entry)) r ⌝ }
+{
+    let Row::Of(own, left, right, _, _) = three(line) else {
+        return Lined::Fault(4);
+    };
+    let bad = either(either(bad_own(m, own), too_large(m, left)), too_large(m, right));
+    let twice = is_marked(defined, own);
+    let unknown = either(is_unknown(defined, left), is_unknown(defined, right));
+    let number = first_of(bad, twice, unknown);
+    if number == 0 {
+        return Lined::Row(own as u16, left as u16, right as u16);
+    }
+    Lined::Fault(number)
+}
