@@ -1,9 +1,10 @@
 -- What the code's answer says of a section: the lines of one kind before the symbols (01, "The file", rule 2). Assumes nothing.
-use Prim.Native.Nat.{ℕ, _≤_}
+use Prim.Native.Nat.{ℕ, _+_, _^_, _≤_, _<_}
 use mathlib.Core.List.{List, [], _∷_}
 use mathlib.Core.Path.{_≡_}
-use lib.ListN.{length, drop}
+use lib.ListN.{length, getD, drop}
 use Rattle.below.specs.Table.{table}
+use Rattle.circuit.specs.Limits.{base}
 use Rattle.circuit.specs.Outcome.{Outcome, taken, refused}
 use Rattle.text.specs.declared.body.Sectioned.{Sectioned}
 use Rattle.text.specs.declared.body.Sectioned.the-variants.{Done, Refused}
@@ -28,3 +29,20 @@ SectionAs rule n place file at before after row (Done next) =
     (defined : List ℕ) → Marks before defined → ReadTo rule n place file at before after row next defined
 SectionAs rule n place file at before after row (Refused r) =
     (defined : List ℕ) → Marks before defined → section rule n place (beginning file at defined) ≡ refused (r .number) (r .place)
+
+-- a section's rows, as the code holds them: one list of literals for each field
+unfoldable pub inputRow : List ℕ → ℕ → List ℕ
+inputRow input i = getD input i 0 ∷ []
+
+unfoldable pub latchRow : (latch next : List ℕ) → ℕ → List ℕ
+latchRow latch next i = getD latch i 0 ∷ getD next i 0 ∷ []
+
+unfoldable pub gateRow : (gate left right : List ℕ) → ℕ → List ℕ
+gateRow gate left right i = getD gate i 0 ∷ getD left i 0 ∷ getD right i 0 ∷ []
+
+-- what a section may count on: a place within the file, a largest variable within the limit, a mark for each variable, small numbers
+pub record Room (file : List ℕ) (at place M : ℕ) (marks : List ℕ) (n : ℕ) : Type 0 where
+  pub within : at ≤ length file
+  pub largest : M ≤ base .variable
+  pub marks-all : length marks ≡ base .variable + 1
+  pub places : place + n < 2 ^ 32

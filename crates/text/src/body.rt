@@ -2,7 +2,12 @@
 use circuit::Refusal;
 use crate::fields::{one, three, two, Row};
 use crate::judge::{bad_own, either, first_of, is_marked, is_unknown, too_large};
+use crate::line::line_end;
 ghost use Prim.Native.Nat.{_≤_};
+ghost use mathlib.Core.Path.{_≡_};
+ghost use lib.ListN.{length, set};
+ghost use Rattle.circuit.specs.Literal.{variable};
+ghost use Rattle.text.specs.SectionAs.{SectionAs, Room, inputRow, latchRow, gateRow};
 ghost use Rattle.circuit.specs.Limits.{base};
 ghost use Rattle.text.specs.LinedAs.{LinedAs};
 ghost use Rattle.text.specs.Rules.{inputRule, latchRule, outputRule, gateRule};
@@ -82,4 +87,41 @@ fn gate_line(line: &[u8], m: u16, defined: &[u8]) -> Lined
         return Lined::Row(own as u16, left as u16, right as u16);
     }
     Lined::Fault(number)
+}
+
+// Marks a literal's variable as defined.
+fn mark(defined: &mut [u8], own: u16)
+    ensures { λ r. ⌜ now (defined .exit) ≡ set (now (defined .entry)) (variable own) 1 ⌝ }
+{
+    let v = (own / 2) as usize;
+    if v < defined.len() {
+        defined[v] = 1;
+    }
+}
+
+// The input lines: as many as there are inputs.
+fn input_lines(s: &[u8], from: usize, place: usize, m: u16, defined: &mut [u8], input: &mut [u16]) -> Sectioned
+    requires { ⌜ Room (now s) from place m (now defined) (length (now input)) ⌝ }
+    ensures { λ r. ⌜ SectionAs (inputRule m) (length (now (input .entry))) place (now (s .entry)) from (now (defined .entry)) (now (defined .exit)) (inputRow (now (input .exit))) r ⌝ }
+{
+    let mut at = from;
+    let mut i = 0;
+    while i < input.len() {
+        let end = line_end(s, at);
+        match input_line(&s[at..end], m, defined) {
+            Lined::Fault(number) => {
+                return Sectioned::Refused(Refusal {
+                    number,
+                    place: place + i,
+                });
+            }
+            Lined::Row(own, _, _) => {
+                input[i] = own;
+                mark(defined, own);
+            }
+        }
+        at = end;
+        i += 1;
+    }
+    Sectioned::Done(at)
 }

@@ -1,5 +1,5 @@
 -- A section read line by line: what is left of it equals the whole. Assumes nothing.
-use Prim.Native.Nat.{ℕ, zero, suc, _+_, _-_, _<_, _≤_}
+use Prim.Native.Nat.{ℕ, zero, suc, _+_, _*_, _-_, _<_, _≤_}
 use native.Mathlib.Decide.{ℕ-discrete}
 use native.Mathlib.Numerals.{add-one}
 use native.Mathlib.Omega.{arith}
@@ -9,13 +9,14 @@ use mathlib.Core.List.{List, [], _∷_, _++_}
 use mathlib.Core.Option.{Option}
 use mathlib.Core.Path.{_≡_, refl, sym, ap, ap₂, _∙_, subst}
 use lib.Dec.{eqb}
-use lib.ListN.{length, getD, drop, set}
+use lib.ListN.{length, getD, take, drop, set, length-set, length-drop}
 use lib.Seq.{drop-drop, getD-set-same, getD-set-other}
 use borrow.Author.Tests.{eq-eqb, ne-eqb}
 use Rattle.below.specs.Among.{member}
 use Rattle.below.specs.Table.{table}
 use Rattle.below.proofs.laws.Among.{member-snoc}
 use Rattle.below.proofs.laws.Table.{table-same}
+use Rattle.circuit.specs.Limits.{base}
 use Rattle.circuit.specs.Literal.{variable}
 use Rattle.circuit.specs.Outcome.{Outcome, taken, refused, _>>=_}
 use Rattle.text.specs.Line.{lines, firstLine, numbersOf}
@@ -23,7 +24,7 @@ use Rattle.text.specs.Marks.{Marks}
 use Rattle.text.specs.Rules.{Rule}
 use Rattle.text.specs.Section.{Body, judged, withRow, section}
 use Rattle.text.specs.SectionAs.{beginning, ReadTo}
-use Rattle.text.proofs.laws.Position.{lines-behind}
+use Rattle.text.proofs.laws.Position.{lines-behind, first-line-takes, first-line-within}
 
 -- one more variable is defined and marked
 pub mark-more : (marks defined : List ℕ) (v : ℕ) → v < length marks → Marks marks defined → Marks (set marks v 1) (defined ++ (v ∷ []))
@@ -97,3 +98,63 @@ module _ (rule : Rule) (n place : ℕ) (s : List ℕ) (start : ℕ) (defined₀ 
       none = omega arith
       all : i ≡ n
       all = omega (arith, w .count)
+
+-- the line at a place is the part of the file up to its end
+pub line-part : (s : List ℕ) (at end : ℕ) → end ≡ at + length (firstLine (drop at s)) → take (end - at) (drop at s) ≡ firstLine (drop at s)
+line-part s at end e =
+    let size : end - at ≡ length (firstLine (drop at s)) = omega arith in
+    rw size (first-line-takes (drop at s))
+
+pub line-ends-within : (s : List ℕ) (at end : ℕ) → end ≡ at + length (firstLine (drop at s)) → at ≤ length s → end ≤ length s
+line-ends-within s at end e h = omega (arith, first-line-within (drop at s), length-drop at s)
+
+-- what a section's loop knows, whatever was defined before it
+pub record Looping (rule : Rule) (n place : ℕ) (s : List ℕ) (start : ℕ) (before marks : List ℕ) (row : ℕ → List ℕ) (at i : ℕ) : Type 0 where
+  pub marks-all : length marks ≡ length before
+  pub within : at ≤ length s
+  pub count : i ≤ n
+  pub reading : (defined : List ℕ) → Marks before defined → Reading rule n place s start defined marks row at i
+
+pub looping-starts : (rule : Rule) (n place : ℕ) (s : List ℕ) (start : ℕ) (before : List ℕ) (row : ℕ → List ℕ) → start ≤ length s → Looping rule n place s start before before row start 0
+looping-starts rule n place s start before row h =
+    record { marks-all = refl; within = h; count = omega arith; reading = λ defined says. reading-starts rule n place s start defined before row says }
+
+module _ (rule : Rule) (n place : ℕ) (s : List ℕ) (start : ℕ) (before marks : List ℕ) (row : ℕ → List ℕ) (at i : ℕ)
+  (w : Looping rule n place s start before marks row at i) where
+  pub looping-ends : n ≤ i → (defined : List ℕ) → Marks before defined → ReadTo rule n place s start before marks row at defined
+  looping-ends done defined says = reading-ends rule n place s start defined before marks row at i (w .reading defined says) done (w .within)
+
+  module _ (more : i < n) (end : ℕ) (ends : end ≡ at + length (firstLine (drop at s))) where
+    pub looping-refuses : (number : ℕ) → ((defined : List ℕ) (p : ℕ) → Marks marks defined → judged rule defined p (numbersOf (rule .count) (take (end - at) (drop at s))) ≡ refused number p) → (defined : List ℕ) → Marks before defined → section rule n place (beginning s start defined) ≡ refused number (place + i)
+    looping-refuses number faulty defined says =
+        let r = w .reading defined says in
+        reading-refuses rule n place s start defined marks row at i r more number
+        (rw (line-part s at end ends) at (faulty (r .defined) (place + i) (r .says)))
+
+    pub looping-goes-on : (fs : List ℕ) (row′ : ℕ → List ℕ) → ((defined : List ℕ) (p : ℕ) → Marks marks defined → judged rule defined p (numbersOf (rule .count) (take (end - at) (drop at s))) ≡ taken fs) → ((j : ℕ) → j < i → row j ≡ row′ j) → row′ i ≡ fs → rule .defines ≡ true → variable (getD fs 0 0) < length marks → Looping rule n place s start before (set marks (variable (getD fs 0 0)) 1) row′ end (i + 1)
+    looping-goes-on fs row′ fine same here defines marked =
+        record
+        { marks-all = length-set marks (variable (getD fs 0 0)) 1 ∙ w .marks-all
+        ; within = line-ends-within s at end ends (w .within)
+        ; count = omega arith
+        ; reading = onward
+        }
+      where
+        onward : (defined : List ℕ) → Marks before defined → Reading rule n place s start defined (set marks (variable (getD fs 0 0)) 1) row′ end (i + 1)
+        onward defined says =
+            let r = w .reading defined says in
+            reading-goes-on rule n place s start defined marks row at i r more fs (set marks (variable (getD fs 0 0)) 1) row′ end
+            (rw (line-part s at end ends) at (fine (r .defined) (place + i) (r .says)))
+            ends
+            same
+            here
+            (rw defines (mark-more marks (r .defined) (variable (getD fs 0 0)) marked (r .says)))
+
+-- a literal that a circuit may have has a mark
+pub has-mark : (marks before : List ℕ) (l : ℕ) → length marks ≡ length before → length before ≡ base .variable + 1 → l < 2 * base .variable + 2 → variable l < length marks
+unfolding variable
+has-mark marks before l e f h = omega arith
+
+-- rows before the one just stored stay
+pub stored-before : (l : List ℕ) (i v j : ℕ) → j < i → getD l j 0 ≡ getD (set l i v) j 0
+stored-before l i v j h = sym (getD-set-other l i j v 0 (λ e. omega arith))
