@@ -125,3 +125,80 @@ fn input_lines(s: &[u8], from: usize, place: usize, m: u16, defined: &mut [u8], 
     }
     Sectioned::Done(at)
 }
+
+// The latch lines.
+fn latch_lines(
+    s: &[u8],
+    from: usize,
+    place: usize,
+    m: u16,
+    defined: &mut [u8],
+    latch: &mut [u16],
+    next: &mut [u16],
+) -> Sectioned
+    requires { ⌜ Room (now s) from place m (now defined) (length (now latch)) ⌝ }
+    requires { ⌜ length (now next) ≡ length (now latch) ⌝ }
+    ensures { λ r. ⌜ SectionAs (latchRule m) (length (now (latch .entry))) place (now (s .entry)) from (now (defined .entry)) (now (defined .exit)) (latchRow (now (latch .exit)) (now (next .exit))) r ⌝ }
+{
+    let mut at = from;
+    let mut i = 0;
+    while i < latch.len() {
+        let end = line_end(s, at);
+        match latch_line(&s[at..end], m, defined) {
+            Lined::Fault(number) => {
+                return Sectioned::Refused(Refusal {
+                    number,
+                    place: place + i,
+                });
+            }
+            Lined::Row(own, then, _) => {
+                latch[i] = own;
+                next[i] = then;
+                mark(defined, own);
+            }
+        }
+        at = end;
+        i += 1;
+    }
+    Sectioned::Done(at)
+}
+
+// The gate lines.
+fn gate_lines(
+    s: &[u8],
+    from: usize,
+    place: usize,
+    m: u16,
+    defined: &mut [u8],
+    gate: &mut [u16],
+    left: &mut [u16],
+    right: &mut [u16],
+) -> Sectioned
+    requires { ⌜ Room (now s) from place m (now defined) (length (now gate)) ⌝ }
+    requires { ⌜ length (now left) ≡ length (now gate) ⌝ }
+    requires { ⌜ length (now right) ≡ length (now gate) ⌝ }
+    ensures { λ r. ⌜ SectionAs (gateRule m) (length (now (gate .entry))) place (now (s .entry)) from (now (defined .entry)) (now (defined .exit)) (gateRow (now (gate .exit)) (now (left .exit)) (now (right .exit))) r ⌝ }
+{
+    let mut at = from;
+    let mut i = 0;
+    while i < gate.len() {
+        let end = line_end(s, at);
+        match gate_line(&s[at..end], m, defined) {
+            Lined::Fault(number) => {
+                return Sectioned::Refused(Refusal {
+                    number,
+                    place: place + i,
+                });
+            }
+            Lined::Row(own, a, b) => {
+                gate[i] = own;
+                left[i] = a;
+                right[i] = b;
+                mark(defined, own);
+            }
+        }
+        at = end;
+        i += 1;
+    }
+    Sectioned::Done(at)
+}

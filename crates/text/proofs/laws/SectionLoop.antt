@@ -158,3 +158,6 @@ has-mark marks before l e f h = omega arith
 -- rows before the one just stored stay
 pub stored-before : (l : List ℕ) (i v j : ℕ) → j < i → getD l j 0 ≡ getD (set l i v) j 0
 stored-before l i v j h = sym (getD-set-other l i j v 0 (λ e. omega arith))
+
+pub ap₃ : {A : Type 0} (f : ℕ → ℕ → ℕ → A) {a b c d e g : ℕ} → a ≡ b → c ≡ d → e ≡ g → f a c e ≡ f b d g
+ap₃ f p q r = λ x. f (p x) (q x) (r x)
