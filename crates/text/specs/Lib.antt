@@ -9,6 +9,7 @@ pub mod Rules
 pub mod Section
 pub mod LinedAs
 pub mod SectionAs
+pub mod UsedAs
 pub mod Symbol
 pub mod TextFile
 pub mod Read

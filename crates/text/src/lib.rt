@@ -4,3 +4,4 @@ mod fields;
 mod judge;
 mod line;
 mod number;
+mod symbols;

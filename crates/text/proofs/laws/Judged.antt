@@ -72,7 +72,7 @@ module _ (M : ℕ) (marks defined : List ℕ) (says : Marks marks defined) where
   unfolding isDefined marked Marks
   defined-marked l = sym (says (variable l))
 
-  unknown-unmarked : (l : ℕ) → unknown defined l ≡ unmarked marks l
+  pub unknown-unmarked : (l : ℕ) → unknown defined l ≡ unmarked marks l
   unfolding unknown unmarked
   unknown-unmarked l = ap (λ (b : Bool). not (constant l) && not b) (defined-marked l)
 
