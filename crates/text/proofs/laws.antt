@@ -6,3 +6,4 @@ pub mod SectionLoop
 pub mod PositionNumber
 pub mod PositionFields
 pub mod PositionSymbol
+pub mod SymbolHere

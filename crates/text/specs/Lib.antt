@@ -11,6 +11,8 @@ pub mod LinedAs
 pub mod SectionAs
 pub mod UsedAs
 pub mod Symbol
+pub mod SymbolAs
+pub mod SymboledAs
 pub mod TextFile
 pub mod Read
 pub mod Written

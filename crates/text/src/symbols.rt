@@ -1,11 +1,19 @@
 // Symbol lines and the comment (01, "The file", rules 5 and 6).
+use circuit::{Circuit, Refusal};
+use crate::body::Sectioned;
 use crate::judge::is_unknown;
-ghost use Prim.Native.Nat.{_+_, _≤_, _<_};
+use crate::line::line_end;
+use crate::number::{number_at, Num};
+ghost use Prim.Native.Nat.{_+_, _^_, _≤_, _<_};
 ghost use mathlib.Core.Path.{_≡_};
-ghost use lib.ListN.{length, drop};
+ghost use mathlib.Core.Bool.{cond, _&&_};
+ghost use lib.Dec.{eqb};
+ghost use lib.ListN.{length, getD, drop, set};
 ghost use Rattle.bits.specs.Bytes.{startsWith};
 ghost use Rattle.text.specs.Number.{run};
-ghost use Rattle.text.specs.Symbol.{isNameByte, isComment};
+ghost use Rattle.text.specs.Symbol.{isNameByte, isComment, positions, inputLetter, prefix};
+ghost use Rattle.text.specs.SymbolAs.{wellNamed, counted, slotOf};
+ghost use Rattle.text.specs.SymboledAs.{SymbolAt, SymbolAs};
 ghost use Rattle.text.specs.UsedAs.{UsedAs};
 
 fn widen(l: u16) -> u32
@@ -75,4 +83,141 @@ pub fn is_comment(line: &[u8]) -> bool
         }
     }
     false
+}
+
+// Whether a space, a name and byte 10 stand at a place, and nothing else.
+fn is_named(line: &[u8], at: usize) -> bool
+    ensures { λ r. ⌜ r ≡ wellNamed (drop at (now (line .entry))) ⌝ }
+{
+    if line.len() <= at {
+        return false;
+    }
+    if line[at] != 32 {
+        return false;
+    }
+    let from = at + 1;
+    let end = name_end(line, from);
+    if line.len() <= end {
+        return false;
+    }
+    if line[end] != 10 {
+        return false;
+    }
+    if line.len() - end != 1 {
+        return false;
+    }
+    let size = end - from;
+    if size < 1 {
+        return false;
+    }
+    size <= 200
+}
+
+// How many positions a letter has.
+fn positions_of(letter: u8, inputs: usize, latches: usize) -> usize
+    ensures { λ r. ⌜ r ≡ positions (counted inputs latches) letter ⌝ }
+{
+    if letter == 105 {
+        return inputs;
+    }
+    if letter == 108 {
+        return latches;
+    }
+    if letter == 111 {
+        return 1;
+    }
+    0
+}
+
+// Where the marks have a letter's position.
+fn slot_of(letter: u8, position: u32) -> usize
+    ensures { λ r. ⌜ r ≡ slotOf letter position ⌝ }
+{
+    let p = position as usize;
+    if letter == 105 {
+        return p;
+    }
+    if letter == 108 {
+        return Circuit::INPUTS + p;
+    }
+    Circuit::INPUTS + Circuit::LATCHES + p
+}
+
+fn is_set(marks: &[u8], i: usize) -> bool
+    ensures { λ r. ⌜ r ≡ eqb (getD (now (marks .entry)) i 0) 1 ⌝ }
+{
+    if i < marks.len() {
+        return marks[i] == 1;
+    }
+    false
+}
+
+fn set_if(test: bool, marks: &mut [u8], i: usize)
+    ensures { λ r. ⌜ now (marks .exit) ≡ cond test (set (now (marks .entry)) i 1) (now (marks .entry)) ⌝ }
+{
+    if test {
+        if i < marks.len() {
+            marks[i] = 1;
+        }
+    }
+}
+
+// Whether a letter and the name at a place make an input controllable.
+fn is_controllable(letter: u8, line: &[u8], at: usize) -> bool
+    ensures { λ r. ⌜ r ≡ (eqb letter inputLetter && startsWith prefix (drop at (now (line .entry)))) ⌝ }
+{
+    if letter == 105 {
+        return starts_with(b"controllable_", line, at);
+    }
+    false
+}
+
+// What a line behind the gates is: the comment's, a symbol's (where its mark stands, its position, and whether it makes an input
+// controllable), or none.
+pub enum Symboled {
+    Comment,
+    Of(usize, usize, bool),
+    Bad,
+}
+
+fn symbol_at(
+    line: &[u8],
+    letter: u8,
+    position: u32,
+    next: usize,
+    inputs: usize,
+    latches: usize,
+    named: &[u8],
+) -> Symboled
+    requires { ⌜ next < 2 ^ 63 ⌝ }
+    ensures { λ r. ⌜ SymbolAt inputs latches (now (named .entry)) letter position (drop next (now (line .entry))) r ⌝ }
+{
+    if is_named(line, next) {
+        let p = position as usize;
+        if p < positions_of(letter, inputs, latches) {
+            let slot = slot_of(letter, position);
+            if is_set(named, slot) {
+                return Symboled::Bad;
+            }
+            let flag = is_controllable(letter, line, next + 1);
+            return Symboled::Of(slot, p, flag);
+        }
+    }
+    Symboled::Bad
+}
+
+fn symbol_line(line: &[u8], inputs: usize, latches: usize, named: &[u8]) -> Symboled
+    ensures { λ r. ⌜ SymbolAs inputs latches (now (named .entry)) (now (line .entry)) r ⌝ }
+{
+    if is_comment(line) {
+        return Symboled::Comment;
+    }
+    if line.len() == 0 {
+        return Symboled::Bad;
+    }
+    let letter = line[0];
+    let Num::Is(position, next) = number_at(line, 1) else {
+        return Symboled::Bad;
+    };
+    symbol_at(line, letter, position, next, inputs, latches, named)
 }

@@ -1,5 +1,5 @@
 -- A symbol line, place by place: the fixed string, the end of a name, the line `c`. Assumes nothing.
-use Prim.Native.Nat.{ℕ, zero, suc, _+_, _<_, _≤_}
+use Prim.Native.Nat.{ℕ, zero, suc, _+_, _-_, _<_, _≤_}
 use native.Mathlib.Numerals.{add-one}
 use native.Mathlib.Omega.{arith}
 use native.Mathlib.Nat.{add-zero}
@@ -9,11 +9,12 @@ use mathlib.Core.List.{List, [], _∷_}
 use mathlib.Core.Path.{_≡_, refl, sym, ap, ap₂, _∙_, subst}
 use lib.Dec.{eqb, leb}
 use lib.ListN.{length, getD, drop, drop-of-length-le}
-use lib.Seq.{drop-cons}
+use lib.Seq.{drop-cons, drop-drop, getD-drop}
 use borrow.Author.Tests.{eq-eqb, ne-eqb, le-leb, lt-leb, leb-true, eqb-true}
 use Rattle.bits.specs.Bytes.{ascii, startsWith, sameBytes}
 use Rattle.text.specs.Number.{run}
-use Rattle.text.specs.Symbol.{isNameByte, isComment}
+use Rattle.text.specs.Symbol.{isNameByte, isName, isComment}
+use Rattle.text.specs.SymbolAs.{wellNamed}
 use Rattle.text.proofs.laws.PositionNumber.{run-goes-on, run-stops}
 
 -- i bytes of the fixed string are met
@@ -87,3 +88,40 @@ comment-other (a ∷ b ∷ d ∷ l) e = and-false (eqb a 99) (eqb b 10)
     and-false true true = refl
     and-false true false = refl
     and-false false y = refl
+
+-- byte 10 at the end of a line, and nothing behind it
+module _ (line : List ℕ) (end : ℕ) where
+  pub ends-here : end < length line → getD line end 0 ≡ 10 → length line - end ≡ 1 → sameBytes (drop end line) (10 ∷ []) ≡ true
+  unfolding sameBytes
+  ends-here h e l = rw (drop-cons line end 0 h, drop-of-length-le line {i = suc end} (omega arith), eq-eqb (getD line end 0) 10 e)
+
+  pub ends-past : length line ≤ end → sameBytes (drop end line) (10 ∷ []) ≡ false
+  unfolding sameBytes
+  ends-past h = rw (drop-of-length-le line {i = end} h)
+
+  pub ends-other : end < length line → (getD line end 0 ≡ 10 → ⊥) → sameBytes (drop end line) (10 ∷ []) ≡ false
+  unfolding sameBytes
+  ends-other h e = rw (drop-cons line end 0 h, ne-eqb (getD line end 0) 10 e)
+
+  pub ends-later : end < length line → (length line - end ≡ 1 → ⊥) → sameBytes (drop end line) (10 ∷ []) ≡ false
+  unfolding sameBytes
+  ends-later h e = rw (drop-cons line end 0 h, drop-cons line (suc end) 0 (omega arith)) (and-false (eqb (getD line end 0) 10))
+    where
+      and-false : (b : Bool) → (b && false) ≡ false
+      and-false true = refl
+      and-false false = refl
+
+-- a name by its places
+pub well-named : (line : List ℕ) (at end : ℕ) → end ≡ at + 1 + length (run isNameByte (drop (at + 1) line)) → wellNamed (drop at line) ≡ (eqb (getD line at 0) 32 && sameBytes (drop end line) (10 ∷ []) && (leb 1 (end - (at + 1)) && leb (end - (at + 1)) 200))
+unfolding wellNamed isName
+well-named line at end e =
+    rw (drop-drop 1 at line, getD-drop at line 0 0, add-zero at, size, drop-drop (suc (end - (at + 1))) at line, behind)
+  where
+    size : length (run isNameByte (drop (at + 1) line)) ≡ end - (at + 1)
+    size = omega arith
+    behind : at + suc (end - (at + 1)) ≡ end
+    behind = omega arith
+
+pub unnamed-past : (line : List ℕ) (at : ℕ) → length line ≤ at → wellNamed (drop at line) ≡ false
+unfolding wellNamed
+unnamed-past line at h = rw (drop-of-length-le line {i = at} h)
