@@ -7,3 +7,4 @@ pub mod PositionNumber
 pub mod PositionFields
 pub mod PositionSymbol
 pub mod SymbolHere
+pub mod SymbolLoop

@@ -13,6 +13,7 @@ pub mod UsedAs
 pub mod Symbol
 pub mod SymbolAs
 pub mod SymboledAs
+pub mod SymbolsAs
 pub mod TextFile
 pub mod Read
 pub mod Written

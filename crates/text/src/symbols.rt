@@ -14,6 +14,7 @@ ghost use Rattle.text.specs.Number.{run};
 ghost use Rattle.text.specs.Symbol.{isNameByte, isComment, positions, inputLetter, prefix};
 ghost use Rattle.text.specs.SymbolAs.{wellNamed, counted, slotOf};
 ghost use Rattle.text.specs.SymboledAs.{SymbolAt, SymbolAs};
+ghost use Rattle.text.specs.SymbolsAs.{SymbolRoom, SymbolsAs};
 ghost use Rattle.text.specs.UsedAs.{UsedAs};
 
 fn widen(l: u16) -> u32
@@ -220,4 +221,42 @@ fn symbol_line(line: &[u8], inputs: usize, latches: usize, named: &[u8]) -> Symb
         return Symboled::Bad;
     };
     symbol_at(line, letter, position, next, inputs, latches, named)
+}
+
+// The symbol lines up to the comment or the end of the file. Marks what is named, and flags each input that is controllable.
+pub fn symbol_lines(
+    s: &[u8],
+    from: usize,
+    place: usize,
+    inputs: usize,
+    latches: usize,
+    named: &mut [u8],
+    flags: &mut [u8],
+) -> Sectioned
+    requires { ⌜ SymbolRoom (now s) from place inputs latches (now named) (now flags) ⌝ }
+    ensures { λ r. ⌜ SymbolsAs inputs latches place (now (s .entry)) from (now (flags .exit)) r ⌝ }
+{
+    let mut at = from;
+    let mut i = 0;
+    while at < s.len() {
+        let end = line_end(s, at);
+        match symbol_line(&s[at..end], inputs, latches, named) {
+            Symboled::Comment => {
+                return Sectioned::Done(at);
+            }
+            Symboled::Bad => {
+                return Sectioned::Refused(Refusal {
+                    number: 8,
+                    place: place + i,
+                });
+            }
+            Symboled::Of(slot, position, flag) => {
+                set_if(true, named, slot);
+                set_if(flag, flags, position);
+            }
+        }
+        at = end;
+        i += 1;
+    }
+    Sectioned::Done(at)
 }
