@@ -8,3 +8,4 @@ pub mod PositionFields
 pub mod PositionSymbol
 pub mod SymbolHere
 pub mod SymbolLoop
+pub mod BodyLoop

@@ -10,6 +10,7 @@ pub mod Section
 pub mod LinedAs
 pub mod SectionAs
 pub mod UsedAs
+pub mod BodyRead
 pub mod Symbol
 pub mod SymbolAs
 pub mod SymboledAs

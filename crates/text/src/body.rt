@@ -3,15 +3,18 @@ use circuit::Refusal;
 use crate::fields::{one, three, two, Row};
 use crate::judge::{bad_own, either, first_of, is_marked, is_unknown, too_large};
 use crate::line::line_end;
-ghost use Prim.Native.Nat.{_≤_};
+use crate::symbols::{first_unknown, widen};
+ghost use Prim.Native.Nat.{ℕ, _≤_};
 ghost use mathlib.Core.Path.{_≡_};
 ghost use lib.ListN.{length, set};
 ghost use Rattle.circuit.specs.Literal.{variable};
+ghost use Rattle.text.specs.BodyRead.{FirstRoom, FirstAs, LastRoom, LastAs, BodyRoom, BodiedAs, headerWith};
+ghost use Rattle.text.specs.UsedAs.{UsedLines};
 ghost use Rattle.text.specs.SectionAs.{SectionAs, Room, inputRow, latchRow, gateRow};
 ghost use Rattle.circuit.specs.Limits.{base};
 ghost use Rattle.text.specs.LinedAs.{LinedAs};
 ghost use Rattle.text.specs.Rules.{inputRule, latchRule, outputRule, gateRule};
-ghost use mathlib.Core.List.{[]};
+ghost use mathlib.Core.List.{List};
 
 // A line's literals; what isn't there is 0.
 pub enum Lined {
@@ -59,7 +62,7 @@ fn latch_line(line: &[u8], m: u16, defined: &[u8]) -> Lined
 
 fn output_line(line: &[u8], m: u16) -> Lined
     requires { ⌜ m ≤ base .variable ⌝ }
-    ensures { λ r. ⌜ LinedAs (outputRule m) [] (now (line .entry)) r ⌝ }
+    ensures { λ r. ⌜ ((marks : List ℕ) → LinedAs (outputRule m) marks (now (line .entry)) r) ⌝ }
 {
     let Row::Of(literal, _, _, _, _) = one(line) else {
         return Lined::Fault(4);
@@ -201,4 +204,105 @@ fn gate_lines(
         i += 1;
     }
     Sectioned::Done(at)
+}
+
+// How the lines before the symbols came out: the place behind them and the output's literal, or a refusal.
+pub enum Bodied {
+    Lines(usize, u16),
+    Refused(Refusal),
+}
+
+fn refusal(number: u8, place: usize) -> Bodied
+    ensures { λ r. ⌜ r ≡ Bodied.Refused (record { number = number; place = place }) ⌝ }
+{
+    Bodied::Refused(Refusal { number, place })
+}
+
+// Inputs and latches.
+fn first_lines(
+    s: &[u8],
+    from: usize,
+    m: u16,
+    gates: usize,
+    defined: &mut [u8],
+    input: &mut [u16],
+    latch: &mut [u16],
+    next: &mut [u16],
+) -> Sectioned
+    requires { ⌜ FirstRoom (now s) from m (now defined) (now input) (now latch) (now next) ⌝ }
+    ensures { λ r. ⌜ FirstAs (headerWith m (length (now (input .entry))) (length (now (latch .entry))) gates) (now (s .entry)) from (now (defined .exit)) (now (input .exit)) (now (latch .exit)) (now (next .exit)) r ⌝ }
+{
+    match input_lines(s, from, 2, m, defined, input) {
+        Sectioned::Refused(r) => Sectioned::Refused(r),
+        Sectioned::Done(at) => latch_lines(s, at, 2 + input.len(), m, defined, latch, next),
+    }
+}
+
+// The output and gates, behind so many inputs and latches.
+fn last_lines(
+    s: &[u8],
+    from: usize,
+    m: u16,
+    inputs: usize,
+    latches: usize,
+    defined: &mut [u8],
+    gate: &mut [u16],
+    left: &mut [u16],
+    right: &mut [u16],
+) -> Bodied
+    requires { ⌜ LastRoom (now s) from m inputs latches (now defined) (now gate) (now left) (now right) ⌝ }
+    ensures { λ r. ⌜ LastAs (headerWith m inputs latches (length (now (gate .entry)))) (now (s .entry)) from (now (defined .entry)) (now (defined .exit)) (now (gate .exit)) (now (left .exit)) (now (right .exit)) r ⌝ }
+{
+    let end = line_end(s, from);
+    match output_line(&s[from..end], m) {
+        Lined::Fault(number) => refusal(number, 2 + inputs + latches),
+        Lined::Row(output, _, _) => {
+            match gate_lines(s, end, 3 + inputs + latches, m, defined, gate, left, right) {
+                Sectioned::Refused(r) => Bodied::Refused(r),
+                Sectioned::Done(at) => Bodied::Lines(at, output),
+            }
+        }
+    }
+}
+
+// All lines before the symbols; then whether what latches and output use is defined.
+pub fn body_lines(
+    s: &[u8],
+    from: usize,
+    m: u16,
+    defined: &mut [u8],
+    input: &mut [u16],
+    latch: &mut [u16],
+    next: &mut [u16],
+    gate: &mut [u16],
+    left: &mut [u16],
+    right: &mut [u16],
+) -> Bodied
+    requires { ⌜ BodyRoom (now s) from m (now defined) (now input) (now latch) (now next) (now gate) (now left) (now right) ⌝ }
+    ensures { λ r. ⌜ BodiedAs (headerWith m (length (now (input .entry))) (length (now (latch .entry))) (length (now (gate .entry)))) (now (s .entry)) from (now (input .exit)) (now (latch .exit)) (now (next .exit)) (now (gate .exit)) (now (left .exit)) (now (right .exit)) r ⌝ }
+{
+    match first_lines(s, from, m, gate.len(), defined, input, latch, next) {
+        Sectioned::Refused(r) => Bodied::Refused(r),
+        Sectioned::Done(at) => {
+            match last_lines(s, at, m, input.len(), latch.len(), defined, gate, left, right) {
+                Bodied::Refused(r) => Bodied::Refused(r),
+                Bodied::Lines(behind, output) => used_lines(next, defined, input.len(), behind, output),
+            }
+        }
+    }
+}
+
+// Whether what latches and output use is defined.
+fn used_lines(next: &[u16], defined: &[u8], inputs: usize, behind: usize, output: u16) -> Bodied
+    requires { ⌜ (inputs ≤ base .inputs) × (length (now next) ≤ base .latches) ⌝ }
+    ensures { λ r. ⌜ UsedLines (now (defined .entry)) (now (next .entry)) inputs behind output r ⌝ }
+{
+    let k = first_unknown(next, defined);
+    if k < next.len() {
+        return refusal(7, 2 + inputs + k);
+    }
+    if is_unknown(defined, widen(output)) {
+        return refusal(7, 2 + inputs + next.len());
+    }
+    Bodied::Lines(behind, output)
 }

@@ -17,7 +17,7 @@ ghost use Rattle.text.specs.SymboledAs.{SymbolAt, SymbolAs};
 ghost use Rattle.text.specs.SymbolsAs.{SymbolRoom, SymbolsAs};
 ghost use Rattle.text.specs.UsedAs.{UsedAs};
 
-fn widen(l: u16) -> u32
+pub fn widen(l: u16) -> u32
     ensures { λ r. ⌜ r ≡ l ⌝ }
 {
     l as u32

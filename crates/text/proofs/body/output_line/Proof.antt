@@ -25,9 +25,9 @@ enum-told c = search needs
 
 returns : tie.Need-returns
 unfolding outputRule
-returns c = 
+returns c marks =
     let a = c .before .before .before .before .args in
-    lined-malformed (outputRule (a .m)) [] (a .line .now) (subst (RowAt (a .line .now) 0 1) (c .enum-told .given .1) (c .before .before .one .ensures))
+    lined-malformed (outputRule (a .m)) marks (a .line .now) (subst (RowAt (a .line .now) 0 1) (c .enum-told .given .1) (c .before .before .one .ensures))
 
 too-large-requires : tie.Need-too-large-requires
 too-large-requires c κs = search needs
@@ -46,22 +46,22 @@ cast-t8 c =
 
 returns-2 : tie.Need-returns-2
 unfolding outputRule
-returns-2 c = 
+returns-2 c marks =
     let a = c .before .before .before .before .before .before .before .before .args in
     let g = c .before .before .before .before .literal .given .0 in
     let (are, small) = subst (RowAt (a .line .now) 0 1) (c .before .before .before .before .literal .given .1) (c .before .before .before .before .before .before .one .ensures) in
     let found : c .before .first-of .result ≡ numberOr (firstOf (tooLarge (a .m) (g .0)) (false) (false)) = cc in
     let fine : (tooLarge (a .m) (g .0)) ≡ false = not-five (tooLarge (a .m) (g .0)) (false) (false) (sym found ∙ c .if1 .taken) in
-    (lined-fine (outputRule (a .m)) [] (a .line .now) ((g .0) ∷ []) (tooLarge (a .m) (g .0)) (false) (false) (c .before .first-of .result) are (λ defined says. output-fault (a .m) [] defined says (g .0)) found (c .if1 .taken), record { first = may-have (a .m) (g .0) (c .before .before .before .before .before .before .before .before .pre) (literal-below (a .m) (g .0) fine); second = omega arith; third = omega arith })
+    (lined-fine (outputRule (a .m)) marks (a .line .now) ((g .0) ∷ []) (tooLarge (a .m) (g .0)) (false) (false) (c .before .first-of .result) are (λ defined says. output-fault (a .m) marks defined says (g .0)) found (c .if1 .taken), record { first = may-have (a .m) (g .0) (c .before .before .before .before .before .before .before .before .pre) (literal-below (a .m) (g .0) fine); second = omega arith; third = omega arith })
 
 returns-3 : tie.Need-returns-3
 unfolding outputRule
-returns-3 c = 
+returns-3 c marks =
     let a = c .before .before .before .before .before .before .before .before .args in
     let g = c .before .before .before .before .literal .given .0 in
     let (are, small) = subst (RowAt (a .line .now) 0 1) (c .before .before .before .before .literal .given .1) (c .before .before .before .before .before .before .one .ensures) in
     let found : c .before .first-of .result ≡ numberOr (firstOf (tooLarge (a .m) (g .0)) (false) (false)) = cc in
-    lined-faulty (outputRule (a .m)) [] (a .line .now) ((g .0) ∷ []) (tooLarge (a .m) (g .0)) (false) (false) (c .before .first-of .result) are (λ defined says. output-fault (a .m) [] defined says (g .0)) found (c .if1 .left)
+    lined-faulty (outputRule (a .m)) marks (a .line .now) ((g .0) ∷ []) (tooLarge (a .m) (g .0)) (false) (false) (c .before .first-of .result) are (λ defined says. output-fault (a .m) marks defined says (g .0)) found (c .if1 .left)
 
 pub output-line-spec : {M : Type 1} → statement M
 output-line-spec =
