@@ -1,9 +1,18 @@
 // One line before the symbols (01, "The file", rule 2): its numbers, or the first of 4, 5, 6 and 7 that applies to it.
-use circuit::Refusal;
-use crate::fields::{one, three, two, Row};
-use crate::judge::{bad_own, either, first_of, is_marked, is_unknown, too_large};
+use crate::fields::Row;
+use crate::fields::one;
+use crate::fields::three;
+use crate::fields::two;
+use crate::judge::bad_own;
+use crate::judge::either;
+use crate::judge::first_of;
+use crate::judge::is_marked;
+use crate::judge::is_unknown;
+use crate::judge::too_large;
 use crate::line::line_end;
-use crate::symbols::{first_unknown, widen};
+use crate::symbols::first_unknown;
+use crate::symbols::widen;
+use circuit::Refusal;
 ghost use Prim.Native.Nat.{ℕ, _≤_};
 ghost use mathlib.Core.Path.{_≡_};
 ghost use lib.ListN.{length, set};
@@ -82,7 +91,10 @@ fn gate_line(line: &[u8], m: u16, defined: &[u8]) -> Lined
     let Row::Of(own, left, right, _, _) = three(line) else {
         return Lined::Fault(4);
     };
-    let bad = either(either(bad_own(m, own), too_large(m, left)), too_large(m, right));
+    let bad = either(
+        either(bad_own(m, own), too_large(m, left)),
+        too_large(m, right),
+    );
     let twice = is_marked(defined, own);
     let unknown = either(is_unknown(defined, left), is_unknown(defined, right));
     let number = first_of(bad, twice, unknown);
@@ -103,7 +115,14 @@ fn mark(defined: &mut [u8], own: u16)
 }
 
 // The input lines: as many as there are inputs.
-fn input_lines(s: &[u8], from: usize, place: usize, m: u16, defined: &mut [u8], input: &mut [u16]) -> Sectioned
+fn input_lines(
+    s: &[u8],
+    from: usize,
+    place: usize,
+    m: u16,
+    defined: &mut [u8],
+    input: &mut [u16],
+) -> Sectioned
     requires { ⌜ Room (now s) from place m (now defined) (length (now input)) ⌝ }
     ensures { λ r. ⌜ SectionAs (inputRule m) (length (now (input .entry))) place (now (s .entry)) from (now (defined .entry)) (now (defined .exit)) (inputRow (now (input .exit))) r ⌝ }
 {
@@ -284,9 +303,25 @@ pub fn body_lines(
     match first_lines(s, from, m, gate.len(), defined, input, latch, next) {
         Sectioned::Refused(r) => Bodied::Refused(r),
         Sectioned::Done(at) => {
-            match last_lines(s, at, m, input.len(), latch.len(), defined, gate, left, right) {
+            match last_lines(
+                s,
+                at,
+                m,
+                input.len(),
+                latch.len(),
+                defined,
+                gate,
+                left,
+                right,
+            ) {
                 Bodied::Refused(r) => Bodied::Refused(r),
-                Bodied::Lines(behind, output) => used_lines(next, defined, input.len(), behind, output),
+                Bodied::Lines(behind, output) => used_lines(
+                    next,
+                    defined,
+                    input.len(),
+                    behind,
+                    output,
+                ),
             }
         }
     }

@@ -1,9 +1,11 @@
 // Symbol lines and the comment (01, "The file", rules 5 and 6).
-use circuit::{Circuit, Refusal};
 use crate::body::Sectioned;
 use crate::judge::is_unknown;
 use crate::line::line_end;
-use crate::number::{number_at, Num};
+use crate::number::Num;
+use crate::number::number_at;
+use circuit::Circuit;
+use circuit::Refusal;
 ghost use Prim.Native.Nat.{_+_, _^_, _≤_, _<_};
 ghost use mathlib.Core.Path.{_≡_};
 ghost use mathlib.Core.Bool.{cond, _&&_};

@@ -47,14 +47,14 @@ module _ (m inputs latches gates : ℕ) (file : List ℕ) (at : ℕ) where
   unfolding firstRead headerWith onward beginning
   first-as before marks after input latch next behind w (Done end) h =
       let v = h (w .defines) (w .says) in
-      record
-      { first = record { inputs = record { rows = table (inputRow input) inputs; defined = w .defines; rest = lines (drop behind file) }; latches = record { rows = table (latchRow latch next) latches; defined = v .defines; rest = lines (drop end file) } }
-      ; whole = rw (w .whole, v .whole)
-      ; inputs = refl
-      ; latches = refl
-      ; says = v .says
-      ; rest = refl
-      ; within = v .within
+      record {
+        first = record { inputs = record { rows = table (inputRow input) inputs; defined = w .defines; rest = lines (drop behind file) }; latches = record { rows = table (latchRow latch next) latches; defined = v .defines; rest = lines (drop end file) } };
+        whole = rw (w .whole, v .whole);
+        inputs = refl;
+        latches = refl;
+        says = v .says;
+        rest = refl;
+        within = v .within;
       }
   first-as before marks after input latch next behind w (SectionRefused r) h = rw (w .whole, h (w .defines) (w .says))
 
@@ -76,8 +76,10 @@ module _ (m inputs latches gates : ℕ) (file : List ℕ) (at end : ℕ) (ends :
       append-nil : (l : List ℕ) → l ++ [] ≡ l
       append-nil [] = refl
       append-nil (x ∷ l) = ap {B = List ℕ} (λ k. x ∷ k) (append-nil l)
+
       rest : drop 1 (lines (drop at file)) ≡ lines (drop end file)
       rest = lines-behind (drop at file) ∙ ap lines (drop-drop (length (firstLine (drop at file))) at file ∙ ap (λ (k : ℕ). drop k file) (sym ends))
+
       body : withRow (outputRule m) (beginning file at defined) (literal ∷ []) ≡ record { rows = (literal ∷ []) ∷ []; defined = defined; rest = lines (drop end file) }
       body = λ x. record { rows = (literal ∷ []) ∷ []; defined = append-nil defined x; rest = rest x }
 
@@ -90,14 +92,14 @@ module _ (m inputs latches gates : ℕ) (file : List ℕ) (at end : ℕ) (ends :
     unfolding lastRead headerWith onward beginning
     gates-taken behind h defined says =
         let v = h defined says in
-        record
-        { last = record { output = record { rows = (literal ∷ []) ∷ []; defined = defined; rest = lines (drop end file) }; gates = record { rows = table (gateRow gate left right) gates; defined = v .defines; rest = lines (drop behind file) } }
-        ; whole = rw (output-taken literal fine defined says, v .whole)
-        ; output = refl
-        ; gates = refl
-        ; says = v .says
-        ; rest = refl
-        ; within = v .within
+        record {
+          last = record { output = record { rows = (literal ∷ []) ∷ []; defined = defined; rest = lines (drop end file) }; gates = record { rows = table (gateRow gate left right) gates; defined = v .defines; rest = lines (drop behind file) } };
+          whole = rw (output-taken literal fine defined says, v .whole);
+          output = refl;
+          gates = refl;
+          says = v .says;
+          rest = refl;
+          within = v .within;
         }
 
 -- what latches and output use
@@ -152,14 +154,14 @@ module _ (m inputs latches gates : ℕ) (file : List ℕ) (at : ℕ) where
       pub body-as : (r : Bodied) → UsedLines after next inputs behind literal r → BodiedAs (headerWith m inputs latches gates) file at input latch next gate left right r
       body-as (Lines end output) h =
           rw (h .0, h .1)
-          (record
-          { bodies = record { first = w .first; last = the-last .last }
-          ; whole = so-far ∙ rw (h .2 (the-last .last .gates .defined) (the-last .says))
-          ; inputs = w .inputs
-          ; latches = w .latches
-          ; output = the-last .output
-          ; gates = the-last .gates
-          ; rest = the-last .rest
-          ; within = the-last .within
+          (record {
+            bodies = record { first = w .first; last = the-last .last };
+            whole = so-far ∙ rw (h .2 (the-last .last .gates .defined) (the-last .says));
+            inputs = w .inputs;
+            latches = w .latches;
+            output = the-last .output;
+            gates = the-last .gates;
+            rest = the-last .rest;
+            within = the-last .within;
           })
       body-as (Refused r) h = so-far ∙ rw (h (the-last .last .gates .defined) (the-last .says))

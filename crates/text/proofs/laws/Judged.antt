@@ -98,8 +98,8 @@ module _ (rule : Rule) (marks line : List ℕ) where
   lined-malformed e defined place says = judged-malformed rule defined place (numbersOf (rule .count) line) e
 
   module _ (fs : List ℕ) (five six seven : Bool) (number : ℕ) (are : numbersOf (rule .count) line ≡ some fs)
-    (calls : (defined : List ℕ) → Marks marks defined → rule .fault defined fs ≡ firstOf five six seven)
-    (found : number ≡ numberOr (firstOf five six seven)) where
+      (calls : (defined : List ℕ) → Marks marks defined → rule .fault defined fs ≡ firstOf five six seven)
+      (found : number ≡ numberOr (firstOf five six seven)) where
     pub lined-faulty : (number ≡ 0 → ⊥) → LinedAs rule marks line (Fault number)
     lined-faulty h defined place says =
         judged-faulty rule defined place (numbersOf (rule .count) line) fs are number

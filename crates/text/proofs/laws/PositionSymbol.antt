@@ -119,6 +119,7 @@ well-named line at end e =
   where
     size : length (run isNameByte (drop (at + 1) line)) ≡ end - (at + 1)
     size = omega arith
+
     behind : at + suc (end - (at + 1)) ≡ end
     behind = omega arith
 

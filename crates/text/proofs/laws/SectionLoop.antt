@@ -34,11 +34,14 @@ mark-more marks defined v h says w = elim (ℕ-discrete w v) [ yes e ↦ same e 
     or-true : (b : Bool) → (b || true) ≡ true
     or-true true = refl
     or-true false = refl
+
     or-false : (b : Bool) → (b || false) ≡ b
     or-false true = refl
     or-false false = refl
+
     same : w ≡ v → eqb (getD (set marks v 1) w 0) 1 ≡ (member w defined || eqb w v)
     same e = rw (e, getD-set-same marks v 1 0 h, eq-eqb v v refl) (sym (or-true (member v defined)))
+
     other : (w ≡ v → ⊥) → eqb (getD (set marks v 1) w 0) 1 ≡ (member w defined || eqb w v)
     other d = rw (getD-set-other marks v w 1 0 d, ne-eqb w v d) (says w ∙ sym (or-false (member w defined)))
 
@@ -70,32 +73,35 @@ module _ (rule : Rule) (n place : ℕ) (s : List ℕ) (start : ℕ) (defined₀ 
     unfolding withRow table
     reading-goes-on fs marks′ row′ next e ends same here says =
         rw add-one
-        (record
-        { defined = w .defined ++ cond (rule .defines) (variable (getD fs 0 0) ∷ []) []
-        ; says = says
-        ; whole = next-line ∙ rw e (ap₂ {C = Outcome Body} (λ m b. section rule (n - suc i) m b) (sym (add-suc place i)) body)
-        ; count = more
+        (record {
+          defined = w .defined ++ cond (rule .defines) (variable (getD fs 0 0) ∷ []) [];
+          says = says;
+          whole = next-line ∙ rw e (ap₂ {C = Outcome Body} (λ m b. section rule (n - suc i) m b) (sym (add-suc place i)) body);
+          count = more;
         })
       where
         rest : drop 1 (lines (drop at s)) ≡ lines (drop next s)
         rest = lines-behind (drop at s) ∙ ap lines (drop-drop (length (firstLine (drop at s))) at s ∙ ap (λ (m : ℕ). drop m s) (sym ends))
+
         rows : table row i ++ (fs ∷ []) ≡ table row′ i ++ (row′ i ∷ [])
         rows = ap₂ {C = List (List ℕ)} (λ l x. l ++ (x ∷ [])) (table-same row row′ i same) (sym here)
+
         body : withRow rule (record { rows = table row i; defined = w .defined; rest = lines (drop at s) }) fs ≡ record { rows = table row′ (suc i); defined = w .defined ++ cond (rule .defines) (variable (getD fs 0 0) ∷ []) []; rest = lines (drop next s) }
         body = λ x. record { rows = rows x; defined = w .defined ++ cond (rule .defines) (variable (getD fs 0 0) ∷ []) []; rest = rest x }
 
   pub reading-ends : (before marks : List ℕ) (row : ℕ → List ℕ) (at i : ℕ) → Reading marks row at i → n ≤ i → at ≤ length s → ReadTo rule n place s start before marks row at defined₀
   unfolding section
   reading-ends before marks row at i w done within =
-      record
-      { defines = w .defined
-      ; says = w .says
-      ; whole = w .whole ∙ subst (λ (m : ℕ). section rule m (place + i) (record { rows = table row i; defined = w .defined; rest = lines (drop at s) }) ≡ taken (record { rows = table row n; defined = w .defined; rest = lines (drop at s) })) (sym none) (ap (λ (m : ℕ). taken (record { rows = table row m; defined = w .defined; rest = lines (drop at s) })) all)
-      ; within = within
+      record {
+        defines = w .defined;
+        says = w .says;
+        whole = w .whole ∙ subst (λ (m : ℕ). section rule m (place + i) (record { rows = table row i; defined = w .defined; rest = lines (drop at s) }) ≡ taken (record { rows = table row n; defined = w .defined; rest = lines (drop at s) })) (sym none) (ap (λ (m : ℕ). taken (record { rows = table row m; defined = w .defined; rest = lines (drop at s) })) all);
+        within = within;
       }
     where
       none : n - i ≡ 0
       none = omega arith
+
       all : i ≡ n
       all = omega (arith, w .count)
 
@@ -120,7 +126,7 @@ looping-starts rule n place s start before row h =
     record { marks-all = refl; within = h; count = omega arith; reading = λ defined says. reading-starts rule n place s start defined before row says }
 
 module _ (rule : Rule) (n place : ℕ) (s : List ℕ) (start : ℕ) (before marks : List ℕ) (row : ℕ → List ℕ) (at i : ℕ)
-  (w : Looping rule n place s start before marks row at i) where
+    (w : Looping rule n place s start before marks row at i) where
   pub looping-ends : n ≤ i → (defined : List ℕ) → Marks before defined → ReadTo rule n place s start before marks row at defined
   looping-ends done defined says = reading-ends rule n place s start defined before marks row at i (w .reading defined says) done (w .within)
 
@@ -133,11 +139,11 @@ module _ (rule : Rule) (n place : ℕ) (s : List ℕ) (start : ℕ) (before mark
 
     pub looping-goes-on : (fs : List ℕ) (row′ : ℕ → List ℕ) → ((defined : List ℕ) (p : ℕ) → Marks marks defined → judged rule defined p (numbersOf (rule .count) (take (end - at) (drop at s))) ≡ taken fs) → ((j : ℕ) → j < i → row j ≡ row′ j) → row′ i ≡ fs → rule .defines ≡ true → variable (getD fs 0 0) < length marks → Looping rule n place s start before (set marks (variable (getD fs 0 0)) 1) row′ end (i + 1)
     looping-goes-on fs row′ fine same here defines marked =
-        record
-        { marks-all = length-set marks (variable (getD fs 0 0)) 1 ∙ w .marks-all
-        ; within = line-ends-within s at end ends (w .within)
-        ; count = omega arith
-        ; reading = onward
+        record {
+          marks-all = length-set marks (variable (getD fs 0 0)) 1 ∙ w .marks-all;
+          within = line-ends-within s at end ends (w .within);
+          count = omega arith;
+          reading = onward;
         }
       where
         onward : (defined : List ℕ) → Marks before defined → Reading rule n place s start defined (set marks (variable (getD fs 0 0)) 1) row′ end (i + 1)

@@ -72,13 +72,13 @@ module _ (inputs latches : ℕ) (marks : List ℕ) (letter position : ℕ) (line
     pub symbol-here : eqb (getD marks (slotOf letter position) 0) 1 ≡ false → (slot : ℕ) (flag : Bool) → slot ≡ slotOf letter position → flag ≡ (eqb letter inputLetter && startsWith prefix (drop (next + 1) line)) → IsSymbol inputs latches (symbolAt (counted inputs latches) seen letter position (drop next line)) slot position flag
     unfolding symbolAt wellNamed Named names isControllableName
     symbol-here e slot flag s f =
-        record
-        { symbol = record { letter = letter; position = position; name = run isNameByte (drop 1 (drop next line)) }
-        ; is = rw (well, lt-ltb position (positions (counted inputs latches) letter) below, sym (says letter position below) ∙ e)
-        ; marked = s
-        ; at = refl
-        ; below = below
-        ; flagged = f ∙ ap₂ (λ (x y : Bool). x && y) (sym (and-true (eqb letter inputLetter)) ∙ ap (λ (x : Bool). eqb letter inputLetter && x) (sym (eq-eqb position position refl))) (sym (starts-run isNameByte prefix (drop 1 (drop next line)) controllable-bytes ∙ ap (startsWith prefix) (drop-drop 1 next line)))
+        record {
+          symbol = record { letter = letter; position = position; name = run isNameByte (drop 1 (drop next line)) };
+          is = rw (well, lt-ltb position (positions (counted inputs latches) letter) below, sym (says letter position below) ∙ e);
+          marked = s;
+          at = refl;
+          below = below;
+          flagged = f ∙ ap₂ (λ (x y : Bool). x && y) (sym (and-true (eqb letter inputLetter)) ∙ ap (λ (x : Bool). eqb letter inputLetter && x) (sym (eq-eqb position position refl))) (sym (starts-run isNameByte prefix (drop 1 (drop next line)) controllable-bytes ∙ ap (startsWith prefix) (drop-drop 1 next line)));
         }
       where
         and-true : (b : Bool) → (b && true) ≡ b

@@ -101,12 +101,15 @@ module _ (inputs latches : ℕ) (hi : inputs ≤ base .inputs) (hl : latches ≤
     where
       mine : Valid inputs latches (s .letter) (s .position)
       mine = valid inputs latches (s .letter) (s .position) below
+
       yours : Valid inputs latches letter position
       yours = valid inputs latches letter position h
+
       same : slotOf letter position ≡ slotOf (s .letter) (s .position) → eqb (getD (set marks (slotOf (s .letter) (s .position)) 1) (slotOf letter position) 0) 1 ≡ (among (names letter position) seen || names letter position s)
       same e =
           let (l, p) = one-slot inputs latches hi hl letter position (s .letter) (s .position) yours mine e in
           rw (e, getD-set-same marks (slotOf (s .letter) (s .position)) 1 0 (omega (arith, slot-below inputs latches hi hl (s .letter) (s .position) mine)), eq-eqb (s .letter) letter (sym l), eq-eqb (s .position) position (sym p)) (sym (or-true (among (names letter position) seen)))
+
       other : (slotOf letter position ≡ slotOf (s .letter) (s .position) → ⊥) → eqb (getD (set marks (slotOf (s .letter) (s .position)) 1) (slotOf letter position) 0) 1 ≡ (among (names letter position) seen || names letter position s)
       other d = rw (getD-set-other marks (slotOf (s .letter) (s .position)) (slotOf letter position) 1 0 d, unnamed d) (says letter position h ∙ sym (or-false (among (names letter position) seen)))
         where
@@ -125,22 +128,26 @@ module _ (inputs latches : ℕ) (hi : inputs ≤ base .inputs) (hl : latches ≤
     where
       before-it : Bool
       before-it = among (λ t. names inputLetter position t && isControllableName (t .name)) seen
+
       elsewhere : (position ≡ s .position → ⊥) → (names inputLetter position s && isControllableName (s .name)) ≡ false
       elsewhere d = go (names inputLetter position s) refl
         where
           go : (b : Bool) → names inputLetter position s ≡ b → (b && isControllableName (s .name)) ≡ false
           go true e = absurd (d (sym (eqb-true _ _ (both-true (eqb (s .letter) inputLetter) (eqb (s .position) position) e .1))))
           go false e = refl
+
       -- an input's position lies among the flags
       inside : true ≡ (names inputLetter (s .position) s && isControllableName (s .name)) → s .position < length flags
       inside e = low (valid inputs latches (s .letter) (s .position) below)
         where
           letter : s .letter ≡ inputLetter
           letter = eqb-true _ _ (both-true (eqb (s .letter) inputLetter) (eqb (s .position) (s .position)) (both-true (names inputLetter (s .position) s) (isControllableName (s .name)) (sym e) .0) .0)
+
           low : Valid inputs latches (s .letter) (s .position) → s .position < length flags
           low (input a b c) = omega arith
           low (latch a b c) = absurd (omega (arith, letter))
           low (output a b c) = absurd (omega (arith, letter))
+
       by : (f : Bool) → f ≡ (names inputLetter (s .position) s && isControllableName (s .name)) → Dec (position ≡ s .position) → getD (cond f (set flags (s .position) 1) flags) position 0 ≡ oneIf (before-it || (names inputLetter position s && isControllableName (s .name)))
       by true e (yes q) = rw (subst (λ (p : ℕ). getD (set flags (s .position) 1) p 0 ≡ 1) (sym q) (getD-set-same flags (s .position) 1 0 (inside e)), subst (λ (p : ℕ). (names inputLetter p s && isControllableName (s .name)) ≡ true) (sym q) (sym e)) (ap oneIf (sym (or-true before-it)))
       by true e (no d) = rw (getD-set-other flags (s .position) position 1 0 d, elsewhere d) (says position h ∙ ap oneIf (sym (or-false before-it)))
@@ -161,15 +168,15 @@ pub record Symbolling (inputs latches place : ℕ) (file : List ℕ) (start : �
 pub symbolling-starts : (inputs latches place : ℕ) (file : List ℕ) (start : ℕ) (marks flags : List ℕ) → SymbolRoom file start place inputs latches marks flags → Symbolling inputs latches place file start marks flags start 0
 unfolding Named Flags among isControllable oneIf
 symbolling-starts inputs latches place file start marks flags room =
-    record
-    { seen = []
-    ; named = λ letter position h. rw (room .marks-none (slotOf letter position))
-    ; flagged = λ position h. room .flags-none position
-    ; whole = ap (λ (p : ℕ). symbolLines (counted inputs latches) p [] (lines (drop start file))) (sym (add-zero place))
-    ; marks-all = room .marks-all
-    ; flags-all = room .flags-all
-    ; within = room .within
-    ; count = omega arith
+    record {
+      seen = [];
+      named = λ letter position h. rw (room .marks-none (slotOf letter position));
+      flagged = λ position h. room .flags-none position;
+      whole = ap (λ (p : ℕ). symbolLines (counted inputs latches) p [] (lines (drop start file))) (sym (add-zero place));
+      marks-all = room .marks-all;
+      flags-all = room .flags-all;
+      within = room .within;
+      count = omega arith;
     }
 
 module _ (inputs latches place : ℕ) (file : List ℕ) (start : ℕ) (marks flags : List ℕ) (at i : ℕ) (w : Symbolling inputs latches place file start marks flags at i) where
@@ -202,19 +209,20 @@ module _ (inputs latches place : ℕ) (file : List ℕ) (start : ℕ) (marks fla
         let at-it : s .position ≡ position = here .at in
         let low : s .position < positions (counted inputs latches) (s .letter) = subst (λ (p : ℕ). p < positions (counted inputs latches) (s .letter)) (sym at-it) (here .below) in
         rw (m, f)
-        (record
-        { seen = w .seen ++ (s ∷ [])
-        ; named = subst (λ (k : ℕ). Named inputs latches (set marks k 1) (w .seen ++ (s ∷ []))) (ap (slotOf (s .letter)) at-it ∙ sym (here .marked)) (named-more inputs latches hi hl s low marks (w .seen) (w .marks-all) (w .named))
-        ; flagged = subst (λ (p : ℕ). Flags inputs (cond flag (set flags p 1) flags) (w .seen ++ (s ∷ []))) at-it (flags-more inputs latches hi hl s low flags (w .seen) flag (w .flags-all) (here .flagged ∙ ap (λ (p : ℕ). names inputLetter p s && isControllableName (s .name)) (sym at-it)) (w .flagged))
-        ; whole = next ∙ rw (e .0, symbolLines, here .is) (ap (λ (p : ℕ). symbolLines (counted inputs latches) p (w .seen ++ (s ∷ [])) (lines (drop end file))) one-more)
-        ; marks-all = length-set marks slot 1 ∙ w .marks-all
-        ; flags-all = kept flag ∙ w .flags-all
-        ; within = line-ends-within file at end ends (w .within)
-        ; count = omega (arith, w .count, line-positive file at more)
+        (record {
+          seen = w .seen ++ (s ∷ []);
+          named = subst (λ (k : ℕ). Named inputs latches (set marks k 1) (w .seen ++ (s ∷ []))) (ap (slotOf (s .letter)) at-it ∙ sym (here .marked)) (named-more inputs latches hi hl s low marks (w .seen) (w .marks-all) (w .named));
+          flagged = subst (λ (p : ℕ). Flags inputs (cond flag (set flags p 1) flags) (w .seen ++ (s ∷ []))) at-it (flags-more inputs latches hi hl s low flags (w .seen) flag (w .flags-all) (here .flagged ∙ ap (λ (p : ℕ). names inputLetter p s && isControllableName (s .name)) (sym at-it)) (w .flagged));
+          whole = next ∙ rw (e .0, symbolLines, here .is) (ap (λ (p : ℕ). symbolLines (counted inputs latches) p (w .seen ++ (s ∷ [])) (lines (drop end file))) one-more);
+          marks-all = length-set marks slot 1 ∙ w .marks-all;
+          flags-all = kept flag ∙ w .flags-all;
+          within = line-ends-within file at end ends (w .within);
+          count = omega (arith, w .count, line-positive file at more);
         })
       where
         one-more : suc (place + i) ≡ place + (i + 1)
         one-more = omega arith
+
         kept : (b : Bool) → length (cond b (set flags position 1) flags) ≡ length flags
         kept true = length-set flags position 1
         kept false = refl

@@ -28,9 +28,10 @@ latch-lines-requires c κs =
     let a = c .before .before .before .before .before .before .before .before .before .before .before .before .before .before .before .before .before .before .args in
     let p = c .before .before .before .before .before .before .before .before .before .before .before .before .before .before .before .before .before .before .pre in
     let i = c .before .before .before .before .before .before .before .before .before .before .input-lines in
-    let w = subst (SectionAs (inputRule (a .m)) (length (a .input .now)) 2 (a .s .now) (a .from) (a .defined .now) (i .last .1 .1 .1 .1 .0) (inputRow (i .last .1 .1 .1 .1 .1 .0))) (c .before .before .before .before .at .given .1) (i .ensures) [] (marks-nothing (a .defined .now) (p .marks-none)) in
-    (record { within = w .within; largest = p .largest; marks-all = i .kept .1 .1 .1 .1 .0 ∙ p .marks-all; places = omega (arith, i .kept .1 .1 .1 .1 .1 .0, p .inputs, p .latches) },
-    p .nexts)
+    let w = subst (SectionAs (inputRule (a .m)) (length (a .input .now)) 2 (a .s .now) (a .from) (a .defined .now) (i .last .1 .1 .1 .1 .0) (inputRow (i .last .1 .1 .1 .1 .1 .0))) (c .before .before .before .before .at .given .1) (i .ensures) [] (marks-nothing (a .defined .now) (p .marks-none)) in (
+      record { within = w .within; largest = p .largest; marks-all = i .kept .1 .1 .1 .1 .0 ∙ p .marks-all; places = omega (arith, i .kept .1 .1 .1 .1 .1 .0, p .inputs, p .latches) },
+      p .nexts,
+    )
 
 same-length : tie.Need-same-length
 same-length c = search needs
@@ -39,7 +40,7 @@ same-length-2 : tie.Need-same-length-2
 same-length-2 c = search needs
 
 returns : tie.Need-returns
-returns c = 
+returns c =
     let a = c .before .before .before .before .before .before .before .before .before .before .before .before .before .before .before .args in
     let p = c .before .before .before .before .before .before .before .before .before .before .before .before .before .before .before .pre in
     let i = c .before .before .before .before .before .before .before .input-lines in
@@ -59,14 +60,14 @@ same-length-6 : tie.Need-same-length-6
 same-length-6 c = search needs
 
 returns-2 : tie.Need-returns-2
-returns-2 c = 
+returns-2 c =
     let a = c .before .before .before .before .before .before .before .before .before .before .before .before .before .before .before .before .before .before .before .before .before .before .before .before .before .args in
     let p = c .before .before .before .before .before .before .before .before .before .before .before .before .before .before .before .before .before .before .before .before .before .before .before .before .before .pre in
     let i = c .before .before .before .before .before .before .before .before .before .before .before .before .before .before .before .before .before .input-lines in
     let w = subst (SectionAs (inputRule (a .m)) (length (a .input .now)) 2 (a .s .now) (a .from) (a .defined .now) (i .last .1 .1 .1 .1 .0) (inputRow (i .last .1 .1 .1 .1 .1 .0))) (c .before .before .before .before .before .before .before .before .before .before .before .at .given .1) (i .ensures) [] (marks-nothing (a .defined .now) (p .marks-none)) in
     let l = c .before .before .before .before .before .before .latch-lines in
     first-as (a .m) (length (a .input .now)) (length (a .latch .now)) (a .gates) (a .s .now) (a .from) (a .defined .now) (i .last .1 .1 .1 .1 .0) (l .last .1 .1 .1 .1 .0) (i .last .1 .1 .1 .1 .1 .0) (l .last .1 .1 .1 .1 .1 .0) (l .last .1 .1 .1 .1 .1 .1 .0)
-    (c .before .before .before .before .before .before .before .before .before .before .before .at .given .0 .0) w (l .result) 
+    (c .before .before .before .before .before .before .before .before .before .before .before .at .given .0 .0) w (l .result)
     (subst (λ (n : ℕ). SectionAs (latchRule (a .m)) (length (a .latch .now)) (2 + n) (a .s .now) (c .before .before .before .before .before .before .before .before .before .before .before .at .given .0 .0) (i .last .1 .1 .1 .1 .0) (l .last .1 .1 .1 .1 .0) (latchRow (l .last .1 .1 .1 .1 .1 .0) (l .last .1 .1 .1 .1 .1 .1 .0)) (l .result))
     (i .kept .1 .1 .1 .1 .1 .0) (l .ensures))
 

@@ -25,7 +25,7 @@ enum-told c = search needs
 
 returns : tie.Need-returns
 unfolding gateRule
-returns c = 
+returns c =
     let a = c .before .before .before .before .before .args in
     lined-malformed (gateRule (a .m)) (a .defined .now) (a .line .now) (subst (RowAt (a .line .now) 0 3) (c .enum-told .given .1) (c .before .before .three .ensures))
 
@@ -60,7 +60,7 @@ first-of-requires : tie.Need-first-of-requires
 first-of-requires c κs = search needs
 
 cast-t16 : tie.Need-cast-t16
-cast-t16 c = 
+cast-t16 c =
     let a = c .before .before .before .before .before .before .before .before .before .before .before .before .before .before .before .before .before .args in
     let g = c .before .before .before .before .before .before .before .before .before .before .before .before .own .given .0 in
     let (are, small) = subst (RowAt (a .line .now) 0 3) (c .before .before .before .before .before .before .before .before .before .before .before .before .own .given .1) (c .before .before .before .before .before .before .before .before .before .before .before .before .before .before .three .ensures) in
@@ -71,7 +71,7 @@ cast-t16 c =
     omega (arith, may-have (a .m) (g .0) (c .before .before .before .before .before .before .before .before .before .before .before .before .before .before .before .before .before .pre) (own-below (a .m) (g .0) own))
 
 cast-t17 : tie.Need-cast-t17
-cast-t17 c = 
+cast-t17 c =
     let a = c .before .before .before .before .before .before .before .before .before .before .before .before .before .before .before .before .before .args in
     let g = c .before .before .before .before .before .before .before .before .before .before .before .before .own .given .0 in
     let (are, small) = subst (RowAt (a .line .now) 0 3) (c .before .before .before .before .before .before .before .before .before .before .before .before .own .given .1) (c .before .before .before .before .before .before .before .before .before .before .before .before .before .before .three .ensures) in
@@ -82,7 +82,7 @@ cast-t17 c =
     omega (arith, may-have (a .m) (g .1 .0) (c .before .before .before .before .before .before .before .before .before .before .before .before .before .before .before .before .before .pre) (literal-below (a .m) (g .1 .0) left))
 
 cast-t18 : tie.Need-cast-t18
-cast-t18 c = 
+cast-t18 c =
     let a = c .before .before .before .before .before .before .before .before .before .before .before .before .before .before .before .before .before .args in
     let g = c .before .before .before .before .before .before .before .before .before .before .before .before .own .given .0 in
     let (are, small) = subst (RowAt (a .line .now) 0 3) (c .before .before .before .before .before .before .before .before .before .before .before .before .own .given .1) (c .before .before .before .before .before .before .before .before .before .before .before .before .before .before .three .ensures) in
@@ -94,7 +94,7 @@ cast-t18 c =
 
 returns-2 : tie.Need-returns-2
 unfolding gateRule
-returns-2 c = 
+returns-2 c =
     let a = c .before .before .before .before .before .before .before .before .before .before .before .before .before .before .before .before .before .args in
     let g = c .before .before .before .before .before .before .before .before .before .before .before .before .own .given .0 in
     let (are, small) = subst (RowAt (a .line .now) 0 3) (c .before .before .before .before .before .before .before .before .before .before .before .before .own .given .1) (c .before .before .before .before .before .before .before .before .before .before .before .before .before .before .three .ensures) in
@@ -106,7 +106,7 @@ returns-2 c =
 
 returns-3 : tie.Need-returns-3
 unfolding gateRule
-returns-3 c = 
+returns-3 c =
     let a = c .before .before .before .before .before .before .before .before .before .before .before .before .before .before .before .before .before .args in
     let g = c .before .before .before .before .before .before .before .before .before .before .before .before .own .given .0 in
     let (are, small) = subst (RowAt (a .line .now) 0 3) (c .before .before .before .before .before .before .before .before .before .before .before .before .own .given .1) (c .before .before .before .before .before .before .before .before .before .before .before .before .before .before .three .ensures) in

@@ -24,11 +24,14 @@ abbrev μ-loop : tie.MeasureT-loop
 μ-loop s from place m defined₀ gate₀ left₀ right₀ at₀ i₀ defined gate left right at i = length gate₀ - i
 
 loop-holds : tie.Need-loop-holds Inv-loop μ-loop
-loop-holds c = 
-    let a = c .before .before .before .before .before .args in
-    (looping-starts (gateRule (a .m)) (length (a .gate .now)) (a .place) (a .s .now) (a .from) (a .defined .now)
-    (gateRow (a .gate .now) (a .left .now) (a .right .now)) (c .before .before .before .before .before .pre .0 .within),
-    refl, c .before .before .before .before .before .pre .1 .0, c .before .before .before .before .before .pre .1 .1)
+loop-holds c =
+    let a = c .before .before .before .before .before .args in (
+      looping-starts (gateRule (a .m)) (length (a .gate .now)) (a .place) (a .s .now) (a .from) (a .defined .now)
+          (gateRow (a .gate .now) (a .left .now) (a .right .now)) (c .before .before .before .before .before .pre .0 .within),
+      refl,
+      c .before .before .before .before .before .pre .1 .0,
+      c .before .before .before .before .before .pre .1 .1,
+    )
 
 line-end-requires : tie.Need-line-end-requires Inv-loop μ-loop
 line-end-requires c κs = search needs
@@ -40,7 +43,7 @@ part-gate-line-start : tie.Need-part-gate-line-start Inv-loop μ-loop
 part-gate-line-start c = search needs
 
 part-gate-line-end : tie.Need-part-gate-line-end Inv-loop μ-loop
-part-gate-line-end c = 
+part-gate-line-end c =
     let a = c .before .before .before .before .before .before .before .before .args in
     let l = c .before .before .loop in
     let e = c .line-end in
@@ -68,7 +71,7 @@ same-length-4 : tie.Need-same-length-4 Inv-loop μ-loop
 same-length-4 c = search needs
 
 returns : tie.Need-returns Inv-loop μ-loop
-returns c = 
+returns c =
     let a = c .before .before .before .before .before .before .before .before .before .before .before .before .before .before .args in
     let l = c .before .before .before .before .before .before .before .before .loop in
     let e = c .before .before .before .before .before .before .line-end in
@@ -108,7 +111,7 @@ loop-less c = search needs
 
 loop-again : tie.Need-loop-again Inv-loop μ-loop
 unfolding gateRow gateRule
-loop-again c = 
+loop-again c =
     let a = c .before .before .before .before .before .before .before .before .before .before .before .before .before .before .before .before .before .before .args in
     let l = c .before .before .before .before .before .before .before .before .before .before .before .before .loop in
     let e = c .before .before .before .before .before .before .before .before .before .before .line-end in
@@ -116,16 +119,17 @@ loop-again c =
     let (fine, may) = (subst (LinedAs (gateRule (a .m)) (l .defined) (take (e .result - l .at) (drop (l .at) (a .s .now)))) (own .1) (c .before .before .before .before .before .before .before .gate-line .ensures)) in
     let gate′ = set (l .gate) (l .i) (own .0 .0) in
     let left′ = set (l .left) (l .i) (own .0 .1 .0) in
-    let right′ = set (l .right) (l .i) (own .0 .1 .1 .0) in
-    (subst (λ (marks : List ℕ). Looping (gateRule (a .m)) (length (a .gate .now)) (a .place) (a .s .now) (a .from) (a .defined .now) marks (gateRow gate′ left′ right′) (e .result) (l .i + 1))
-    (sym (c .before .before .mark .ensures))
-    (looping-goes-on (gateRule (a .m)) (length (a .gate .now)) (a .place) (a .s .now) (a .from) (a .defined .now) (l .defined) (gateRow (l .gate) (l .left) (l .right)) (l .at) (l .i) (l .inv .0) (omega (arith, c .before .before .before .before .before .before .before .before .before .before .before .loop-test .taken, l .inv .1)) (e .result) (e .ensures) (own .0 .0 ∷ own .0 .1 .0 ∷ own .0 .1 .1 .0 ∷ []) (gateRow gate′ left′ right′) fine
-    (λ j h. ap₃ (λ (x y z : ℕ). x ∷ y ∷ z ∷ []) (stored-before (l .gate) (l .i) (own .0 .0) j h) (stored-before (l .left) (l .i) (own .0 .1 .0) j h) (stored-before (l .right) (l .i) (own .0 .1 .1 .0) j h))
-    (ap₃ (λ (x y z : ℕ). x ∷ y ∷ z ∷ []) (getD-set-same (l .gate) (l .i) (own .0 .0) 0 (c .before .before .before .before .before .before .before .before .before .before .before .loop-test .taken)) (getD-set-same (l .left) (l .i) (own .0 .1 .0) 0 (omega (arith, c .before .before .before .before .before .before .before .before .before .before .before .loop-test .taken, l .inv .1, l .inv .2))) (getD-set-same (l .right) (l .i) (own .0 .1 .1 .0) 0 (omega (arith, c .before .before .before .before .before .before .before .before .before .before .before .loop-test .taken, l .inv .1, l .inv .3))))
-    refl (has-mark (l .defined) (a .defined .now) (own .0 .0) (l .inv .0 .marks-all) (c .before .before .before .before .before .before .before .before .before .before .before .before .before .before .before .before .before .before .pre .0 .marks-all) (may .first))),
-    length-set (l .gate) (l .i) (own .0 .0) ∙ l .inv .1,
-    length-set (l .left) (l .i) (own .0 .1 .0) ∙ l .inv .2,
-    length-set (l .right) (l .i) (own .0 .1 .1 .0) ∙ l .inv .3)
+    let right′ = set (l .right) (l .i) (own .0 .1 .1 .0) in (
+      subst (λ (marks : List ℕ). Looping (gateRule (a .m)) (length (a .gate .now)) (a .place) (a .s .now) (a .from) (a .defined .now) marks (gateRow gate′ left′ right′) (e .result) (l .i + 1))
+          (sym (c .before .before .mark .ensures))
+          (looping-goes-on (gateRule (a .m)) (length (a .gate .now)) (a .place) (a .s .now) (a .from) (a .defined .now) (l .defined) (gateRow (l .gate) (l .left) (l .right)) (l .at) (l .i) (l .inv .0) (omega (arith, c .before .before .before .before .before .before .before .before .before .before .before .loop-test .taken, l .inv .1)) (e .result) (e .ensures) (own .0 .0 ∷ own .0 .1 .0 ∷ own .0 .1 .1 .0 ∷ []) (gateRow gate′ left′ right′) fine
+          (λ j h. ap₃ (λ (x y z : ℕ). x ∷ y ∷ z ∷ []) (stored-before (l .gate) (l .i) (own .0 .0) j h) (stored-before (l .left) (l .i) (own .0 .1 .0) j h) (stored-before (l .right) (l .i) (own .0 .1 .1 .0) j h))
+          (ap₃ (λ (x y z : ℕ). x ∷ y ∷ z ∷ []) (getD-set-same (l .gate) (l .i) (own .0 .0) 0 (c .before .before .before .before .before .before .before .before .before .before .before .loop-test .taken)) (getD-set-same (l .left) (l .i) (own .0 .1 .0) 0 (omega (arith, c .before .before .before .before .before .before .before .before .before .before .before .loop-test .taken, l .inv .1, l .inv .2))) (getD-set-same (l .right) (l .i) (own .0 .1 .1 .0) 0 (omega (arith, c .before .before .before .before .before .before .before .before .before .before .before .loop-test .taken, l .inv .1, l .inv .3))))
+          refl (has-mark (l .defined) (a .defined .now) (own .0 .0) (l .inv .0 .marks-all) (c .before .before .before .before .before .before .before .before .before .before .before .before .before .before .before .before .before .before .pre .0 .marks-all) (may .first))),
+      length-set (l .gate) (l .i) (own .0 .0) ∙ l .inv .1,
+      length-set (l .left) (l .i) (own .0 .1 .0) ∙ l .inv .2,
+      length-set (l .right) (l .i) (own .0 .1 .1 .0) ∙ l .inv .3,
+    )
 
 same-length-5 : tie.Need-same-length-5 Inv-loop μ-loop
 same-length-5 c = search needs
@@ -140,7 +144,7 @@ same-length-8 : tie.Need-same-length-8 Inv-loop μ-loop
 same-length-8 c = search needs
 
 returns-2 : tie.Need-returns-2 Inv-loop μ-loop
-returns-2 c = 
+returns-2 c =
     let a = c .before .before .before .before .before .before .before .args in
     let l = c .before .loop in
     looping-ends (gateRule (a .m)) (length (a .gate .now)) (a .place) (a .s .now) (a .from) (a .defined .now) (l .defined) (gateRow (l .gate) (l .left) (l .right)) (l .at) (l .i) (l .inv .0) (omega (arith, c .loop-test .left, l .inv .1))

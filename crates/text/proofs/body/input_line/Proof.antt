@@ -25,7 +25,7 @@ enum-told c = search needs
 
 returns : tie.Need-returns
 unfolding inputRule
-returns c = 
+returns c =
     let a = c .before .before .before .before .before .args in
     lined-malformed (inputRule (a .m)) (a .defined .now) (a .line .now) (subst (RowAt (a .line .now) 0 1) (c .enum-told .given .1) (c .before .before .one .ensures))
 
@@ -39,7 +39,7 @@ first-of-requires : tie.Need-first-of-requires
 first-of-requires c κs = search needs
 
 cast-t10 : tie.Need-cast-t10
-cast-t10 c = 
+cast-t10 c =
     let a = c .before .before .before .before .before .before .before .before .before .before .args in
     let g = c .before .before .before .before .before .own .given .0 in
     let (are, small) = subst (RowAt (a .line .now) 0 1) (c .before .before .before .before .before .own .given .1) (c .before .before .before .before .before .before .before .one .ensures) in
@@ -49,7 +49,7 @@ cast-t10 c =
 
 returns-2 : tie.Need-returns-2
 unfolding inputRule
-returns-2 c = 
+returns-2 c =
     let a = c .before .before .before .before .before .before .before .before .before .before .args in
     let g = c .before .before .before .before .before .own .given .0 in
     let (are, small) = subst (RowAt (a .line .now) 0 1) (c .before .before .before .before .before .own .given .1) (c .before .before .before .before .before .before .before .one .ensures) in
@@ -59,7 +59,7 @@ returns-2 c =
 
 returns-3 : tie.Need-returns-3
 unfolding inputRule
-returns-3 c = 
+returns-3 c =
     let a = c .before .before .before .before .before .before .before .before .before .before .args in
     let g = c .before .before .before .before .before .own .given .0 in
     let (are, small) = subst (RowAt (a .line .now) 0 1) (c .before .before .before .before .before .own .given .1) (c .before .before .before .before .before .before .before .one .ensures) in

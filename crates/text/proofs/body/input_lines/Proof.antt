@@ -23,7 +23,7 @@ abbrev μ-loop : tie.MeasureT-loop
 μ-loop s from place m defined₀ input₀ at₀ i₀ defined input at i = length input₀ - i
 
 loop-holds : tie.Need-loop-holds Inv-loop μ-loop
-loop-holds c = 
+loop-holds c =
     let a = c .before .before .before .args in
     (looping-starts (inputRule (a .m)) (length (a .input .now)) (a .place) (a .s .now) (a .from) (a .defined .now) (inputRow (a .input .now)) (c .before .before .before .pre .within), refl)
 
@@ -37,7 +37,7 @@ part-input-line-start : tie.Need-part-input-line-start Inv-loop μ-loop
 part-input-line-start c = search needs
 
 part-input-line-end : tie.Need-part-input-line-end Inv-loop μ-loop
-part-input-line-end c = 
+part-input-line-end c =
     let a = c .before .before .before .before .before .before .args in
     let l = c .before .before .loop in
     let e = c .line-end in
@@ -59,7 +59,7 @@ same-length-2 : tie.Need-same-length-2 Inv-loop μ-loop
 same-length-2 c = search needs
 
 returns : tie.Need-returns Inv-loop μ-loop
-returns c = 
+returns c =
     let a = c .before .before .before .before .before .before .before .before .before .before .before .before .args in
     let l = c .before .before .before .before .before .before .before .before .loop in
     let e = c .before .before .before .before .before .before .line-end in
@@ -87,19 +87,20 @@ loop-less c = search needs
 
 loop-again : tie.Need-loop-again Inv-loop μ-loop
 unfolding inputRow inputRule
-loop-again c = 
+loop-again c =
     let a = c .before .before .before .before .before .before .before .before .before .before .before .before .before .before .before .before .args in
     let l = c .before .before .before .before .before .before .before .before .before .before .before .before .loop in
     let e = c .before .before .before .before .before .before .before .before .before .before .line-end in
     let own = c .before .before .before .before .before .own .given in
     let (fine, may) = subst (LinedAs (inputRule (a .m)) (l .defined) (take (e .result - l .at) (drop (l .at) (a .s .now)))) (own .1) (c .before .before .before .before .before .before .before .input-line .ensures) in
-    let input = set (l .input) (l .i) (own .0 .0) in
-    (subst (λ (marks : List ℕ). Looping (inputRule (a .m)) (length (a .input .now)) (a .place) (a .s .now) (a .from) (a .defined .now) marks (inputRow input) (e .result) (l .i + 1)) (sym (c .before .before .mark .ensures))
-    (looping-goes-on (inputRule (a .m)) (length (a .input .now)) (a .place) (a .s .now) (a .from) (a .defined .now) (l .defined) (inputRow (l .input)) (l .at) (l .i) (l .inv .0) (omega (arith, c .before .before .before .before .before .before .before .before .before .before .before .loop-test .taken, l .inv .1)) (e .result) (e .ensures) (own .0 .0 ∷ []) (inputRow input) fine
-    (λ j h. ap (λ (x : ℕ). x ∷ []) (stored-before (l .input) (l .i) (own .0 .0) j h))
-    (ap (λ (x : ℕ). x ∷ []) (getD-set-same (l .input) (l .i) (own .0 .0) 0 (c .before .before .before .before .before .before .before .before .before .before .before .loop-test .taken)))
-    refl (has-mark (l .defined) (a .defined .now) (own .0 .0) (l .inv .0 .marks-all) (c .before .before .before .before .before .before .before .before .before .before .before .before .before .before .before .before .pre .marks-all) (may .first))),
-    length-set (l .input) (l .i) (own .0 .0) ∙ l .inv .1)
+    let input = set (l .input) (l .i) (own .0 .0) in (
+      subst (λ (marks : List ℕ). Looping (inputRule (a .m)) (length (a .input .now)) (a .place) (a .s .now) (a .from) (a .defined .now) marks (inputRow input) (e .result) (l .i + 1)) (sym (c .before .before .mark .ensures))
+          (looping-goes-on (inputRule (a .m)) (length (a .input .now)) (a .place) (a .s .now) (a .from) (a .defined .now) (l .defined) (inputRow (l .input)) (l .at) (l .i) (l .inv .0) (omega (arith, c .before .before .before .before .before .before .before .before .before .before .before .loop-test .taken, l .inv .1)) (e .result) (e .ensures) (own .0 .0 ∷ []) (inputRow input) fine
+          (λ j h. ap (λ (x : ℕ). x ∷ []) (stored-before (l .input) (l .i) (own .0 .0) j h))
+          (ap (λ (x : ℕ). x ∷ []) (getD-set-same (l .input) (l .i) (own .0 .0) 0 (c .before .before .before .before .before .before .before .before .before .before .before .loop-test .taken)))
+          refl (has-mark (l .defined) (a .defined .now) (own .0 .0) (l .inv .0 .marks-all) (c .before .before .before .before .before .before .before .before .before .before .before .before .before .before .before .before .pre .marks-all) (may .first))),
+      length-set (l .input) (l .i) (own .0 .0) ∙ l .inv .1,
+    )
 
 same-length-3 : tie.Need-same-length-3 Inv-loop μ-loop
 same-length-3 c = search needs
@@ -108,7 +109,7 @@ same-length-4 : tie.Need-same-length-4 Inv-loop μ-loop
 same-length-4 c = search needs
 
 returns-2 : tie.Need-returns-2 Inv-loop μ-loop
-returns-2 c = 
+returns-2 c =
     let a = c .before .before .before .before .before .args in
     let l = c .before .loop in
     looping-ends (inputRule (a .m)) (length (a .input .now)) (a .place) (a .s .now) (a .from) (a .defined .now) (l .defined) (inputRow (l .input)) (l .at) (l .i) (l .inv .0) (omega (arith, c .loop-test .left, l .inv .1))

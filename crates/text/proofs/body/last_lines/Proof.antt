@@ -23,7 +23,7 @@ part-output-line-start : tie.Need-part-output-line-start
 part-output-line-start c = search needs
 
 part-output-line-end : tie.Need-part-output-line-end
-part-output-line-end c = 
+part-output-line-end c =
     let a = c .before .before .before .before .before .before .args in
     let p = c .before .before .before .before .before .before .pre in
     let e = c .line-end in
@@ -57,9 +57,10 @@ gate-lines-requires : tie.Need-gate-lines-requires
 gate-lines-requires c κs =
     let a = c .before .before .before .before .before .before .before .before .before .before .before .before .before .before .before .args in
     let p = c .before .before .before .before .before .before .before .before .before .before .before .before .before .before .before .pre in
-    let e = c .before .before .before .before .before .before .before .before .before .line-end in
-    (record { within = line-ends-within (a .s .now) (a .from) (e .result) (e .ensures) (p .within); largest = p .largest; marks-all = p .marks-all; places = omega (arith, p .inputs-most, p .latches-most, p .gates) },
-    (p .lefts, p .rights))
+    let e = c .before .before .before .before .before .before .before .before .before .line-end in (
+      record { within = line-ends-within (a .s .now) (a .from) (e .result) (e .ensures) (p .within); largest = p .largest; marks-all = p .marks-all; places = omega (arith, p .inputs-most, p .latches-most, p .gates) },
+      (p .lefts, p .rights),
+    )
 
 enum-known-r : tie.Need-enum-known-r
 enum-known-r c = search needs
@@ -68,7 +69,7 @@ enum-known-at : tie.Need-enum-known-at
 enum-known-at c = search needs
 
 returns : tie.Need-returns
-returns c = 
+returns c =
     let a = c .before .before .before .before .before .before .before .before .before .before .before .before .args in
     let p = c .before .before .before .before .before .before .before .before .before .before .before .before .pre in
     let e = c .before .before .before .before .before .before .line-end in
@@ -89,7 +90,7 @@ same-length-4 c = search needs
 
 returns-2 : tie.Need-returns-2
 unfolding outputRule
-returns-2 c = 
+returns-2 c =
     let a = c .before .before .before .before .before .before .before .before .before .before .before .before .before .before .before .before .before .before .before .before .before .before .before .before .before .before .before .args in
     let p = c .before .before .before .before .before .before .before .before .before .before .before .before .before .before .before .before .before .before .before .before .before .before .before .before .before .before .before .pre in
     let e = c .before .before .before .before .before .before .before .before .before .before .before .before .before .before .before .before .before .before .before .before .before .line-end in
@@ -112,7 +113,7 @@ same-length-8 c = search needs
 
 returns-3 : tie.Need-returns-3
 unfolding outputRule
-returns-3 c = 
+returns-3 c =
     let a = c .before .before .before .before .before .before .before .before .before .before .before .before .before .before .before .before .before .before .before .before .before .before .before .before .before .before .before .args in
     let p = c .before .before .before .before .before .before .before .before .before .before .before .before .before .before .before .before .before .before .before .before .before .before .before .before .before .before .before .pre in
     let e = c .before .before .before .before .before .before .before .before .before .before .before .before .before .before .before .before .before .before .before .before .before .line-end in

@@ -25,7 +25,7 @@ enum-told c = search needs
 
 returns : tie.Need-returns
 unfolding latchRule
-returns c = 
+returns c =
     let a = c .before .before .before .before .before .args in
     lined-malformed (latchRule (a .m)) (a .defined .now) (a .line .now) (subst (RowAt (a .line .now) 0 2) (c .enum-told .given .1) (c .before .before .two .ensures))
 
@@ -45,7 +45,7 @@ first-of-requires : tie.Need-first-of-requires
 first-of-requires c κs = search needs
 
 cast-t12 : tie.Need-cast-t12
-cast-t12 c = 
+cast-t12 c =
     let a = c .before .before .before .before .before .before .before .before .before .before .before .before .args in
     let g = c .before .before .before .before .before .before .before .own .given .0 in
     let (are, small) = subst (RowAt (a .line .now) 0 2) (c .before .before .before .before .before .before .before .own .given .1) (c .before .before .before .before .before .before .before .before .before .two .ensures) in
@@ -55,7 +55,7 @@ cast-t12 c =
     omega (arith, may-have (a .m) (g .0) (c .before .before .before .before .before .before .before .before .before .before .before .before .pre) (own-below (a .m) (g .0) own))
 
 cast-t13 : tie.Need-cast-t13
-cast-t13 c = 
+cast-t13 c =
     let a = c .before .before .before .before .before .before .before .before .before .before .before .before .args in
     let g = c .before .before .before .before .before .before .before .own .given .0 in
     let (are, small) = subst (RowAt (a .line .now) 0 2) (c .before .before .before .before .before .before .before .own .given .1) (c .before .before .before .before .before .before .before .before .before .two .ensures) in
@@ -66,7 +66,7 @@ cast-t13 c =
 
 returns-2 : tie.Need-returns-2
 unfolding latchRule
-returns-2 c = 
+returns-2 c =
     let a = c .before .before .before .before .before .before .before .before .before .before .before .before .args in
     let g = c .before .before .before .before .before .before .before .own .given .0 in
     let (are, small) = subst (RowAt (a .line .now) 0 2) (c .before .before .before .before .before .before .before .own .given .1) (c .before .before .before .before .before .before .before .before .before .two .ensures) in
@@ -77,7 +77,7 @@ returns-2 c =
 
 returns-3 : tie.Need-returns-3
 unfolding latchRule
-returns-3 c = 
+returns-3 c =
     let a = c .before .before .before .before .before .before .before .before .before .before .before .before .args in
     let g = c .before .before .before .before .before .before .before .own .given .0 in
     let (are, small) = subst (RowAt (a .line .now) 0 2) (c .before .before .before .before .before .before .before .own .given .1) (c .before .before .before .before .before .before .before .before .before .two .ensures) in

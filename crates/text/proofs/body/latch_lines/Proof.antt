@@ -23,11 +23,13 @@ abbrev μ-loop : tie.MeasureT-loop
 μ-loop s from place m defined₀ latch₀ next₀ at₀ i₀ defined latch next at i = length latch₀ - i
 
 loop-holds : tie.Need-loop-holds Inv-loop μ-loop
-loop-holds c = 
-    let a = c .before .before .before .before .args in
-    (looping-starts (latchRule (a .m)) (length (a .latch .now)) (a .place) (a .s .now) (a .from) (a .defined .now)
-    (latchRow (a .latch .now) (a .next .now)) (c .before .before .before .before .pre .0 .within),
-    refl, c .before .before .before .before .pre .1)
+loop-holds c =
+    let a = c .before .before .before .before .args in (
+      looping-starts (latchRule (a .m)) (length (a .latch .now)) (a .place) (a .s .now) (a .from) (a .defined .now)
+          (latchRow (a .latch .now) (a .next .now)) (c .before .before .before .before .pre .0 .within),
+      refl,
+      c .before .before .before .before .pre .1,
+    )
 
 line-end-requires : tie.Need-line-end-requires Inv-loop μ-loop
 line-end-requires c κs = search needs
@@ -39,7 +41,7 @@ part-latch-line-start : tie.Need-part-latch-line-start Inv-loop μ-loop
 part-latch-line-start c = search needs
 
 part-latch-line-end : tie.Need-part-latch-line-end Inv-loop μ-loop
-part-latch-line-end c = 
+part-latch-line-end c =
     let a = c .before .before .before .before .before .before .before .args in
     let l = c .before .before .loop in
     let e = c .line-end in
@@ -64,7 +66,7 @@ same-length-3 : tie.Need-same-length-3 Inv-loop μ-loop
 same-length-3 c = search needs
 
 returns : tie.Need-returns Inv-loop μ-loop
-returns c = 
+returns c =
     let a = c .before .before .before .before .before .before .before .before .before .before .before .before .before .args in
     let l = c .before .before .before .before .before .before .before .before .loop in
     let e = c .before .before .before .before .before .before .line-end in
@@ -98,22 +100,23 @@ loop-less c = search needs
 
 loop-again : tie.Need-loop-again Inv-loop μ-loop
 unfolding latchRow latchRule
-loop-again c = 
+loop-again c =
     let a = c .before .before .before .before .before .before .before .before .before .before .before .before .before .before .before .before .before .args in
     let l = c .before .before .before .before .before .before .before .before .before .before .before .before .loop in
     let e = c .before .before .before .before .before .before .before .before .before .before .line-end in
     let own = c .before .before .before .before .before .own .given in
     let (fine, may) = (subst (LinedAs (latchRule (a .m)) (l .defined) (take (e .result - l .at) (drop (l .at) (a .s .now)))) (own .1) (c .before .before .before .before .before .before .before .latch-line .ensures)) in
     let latch′ = set (l .latch) (l .i) (own .0 .0) in
-    let next′ = set (l .next) (l .i) (own .0 .1 .0) in
-    (subst (λ (marks : List ℕ). Looping (latchRule (a .m)) (length (a .latch .now)) (a .place) (a .s .now) (a .from) (a .defined .now) marks (latchRow latch′ next′) (e .result) (l .i + 1))
-    (sym (c .before .before .mark .ensures))
-    (looping-goes-on (latchRule (a .m)) (length (a .latch .now)) (a .place) (a .s .now) (a .from) (a .defined .now) (l .defined) (latchRow (l .latch) (l .next)) (l .at) (l .i) (l .inv .0) (omega (arith, c .before .before .before .before .before .before .before .before .before .before .before .loop-test .taken, l .inv .1)) (e .result) (e .ensures) (own .0 .0 ∷ own .0 .1 .0 ∷ []) (latchRow latch′ next′) fine
-    (λ j h. ap₂ (λ (x y : ℕ). x ∷ y ∷ []) (stored-before (l .latch) (l .i) (own .0 .0) j h) (stored-before (l .next) (l .i) (own .0 .1 .0) j h))
-    (ap₂ (λ (x y : ℕ). x ∷ y ∷ []) (getD-set-same (l .latch) (l .i) (own .0 .0) 0 (c .before .before .before .before .before .before .before .before .before .before .before .loop-test .taken)) (getD-set-same (l .next) (l .i) (own .0 .1 .0) 0 (omega (arith, c .before .before .before .before .before .before .before .before .before .before .before .loop-test .taken, l .inv .1, l .inv .2))))
-    refl (has-mark (l .defined) (a .defined .now) (own .0 .0) (l .inv .0 .marks-all) (c .before .before .before .before .before .before .before .before .before .before .before .before .before .before .before .before .before .pre .0 .marks-all) (may .first))),
-    length-set (l .latch) (l .i) (own .0 .0) ∙ l .inv .1,
-    length-set (l .next) (l .i) (own .0 .1 .0) ∙ l .inv .2)
+    let next′ = set (l .next) (l .i) (own .0 .1 .0) in (
+      subst (λ (marks : List ℕ). Looping (latchRule (a .m)) (length (a .latch .now)) (a .place) (a .s .now) (a .from) (a .defined .now) marks (latchRow latch′ next′) (e .result) (l .i + 1))
+          (sym (c .before .before .mark .ensures))
+          (looping-goes-on (latchRule (a .m)) (length (a .latch .now)) (a .place) (a .s .now) (a .from) (a .defined .now) (l .defined) (latchRow (l .latch) (l .next)) (l .at) (l .i) (l .inv .0) (omega (arith, c .before .before .before .before .before .before .before .before .before .before .before .loop-test .taken, l .inv .1)) (e .result) (e .ensures) (own .0 .0 ∷ own .0 .1 .0 ∷ []) (latchRow latch′ next′) fine
+          (λ j h. ap₂ (λ (x y : ℕ). x ∷ y ∷ []) (stored-before (l .latch) (l .i) (own .0 .0) j h) (stored-before (l .next) (l .i) (own .0 .1 .0) j h))
+          (ap₂ (λ (x y : ℕ). x ∷ y ∷ []) (getD-set-same (l .latch) (l .i) (own .0 .0) 0 (c .before .before .before .before .before .before .before .before .before .before .before .loop-test .taken)) (getD-set-same (l .next) (l .i) (own .0 .1 .0) 0 (omega (arith, c .before .before .before .before .before .before .before .before .before .before .before .loop-test .taken, l .inv .1, l .inv .2))))
+          refl (has-mark (l .defined) (a .defined .now) (own .0 .0) (l .inv .0 .marks-all) (c .before .before .before .before .before .before .before .before .before .before .before .before .before .before .before .before .before .pre .0 .marks-all) (may .first))),
+      length-set (l .latch) (l .i) (own .0 .0) ∙ l .inv .1,
+      length-set (l .next) (l .i) (own .0 .1 .0) ∙ l .inv .2,
+    )
 
 same-length-4 : tie.Need-same-length-4 Inv-loop μ-loop
 same-length-4 c = search needs
@@ -125,7 +128,7 @@ same-length-6 : tie.Need-same-length-6 Inv-loop μ-loop
 same-length-6 c = search needs
 
 returns-2 : tie.Need-returns-2 Inv-loop μ-loop
-returns-2 c = 
+returns-2 c =
     let a = c .before .before .before .before .before .before .args in
     let l = c .before .loop in
     looping-ends (latchRule (a .m)) (length (a .latch .now)) (a .place) (a .s .now) (a .from) (a .defined .now) (l .defined) (latchRow (l .latch) (l .next)) (l .at) (l .i) (l .inv .0) (omega (arith, c .loop-test .left, l .inv .1))

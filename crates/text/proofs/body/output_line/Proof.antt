@@ -36,7 +36,7 @@ first-of-requires : tie.Need-first-of-requires
 first-of-requires c κs = search needs
 
 cast-t8 : tie.Need-cast-t8
-cast-t8 c = 
+cast-t8 c =
     let a = c .before .before .before .before .before .before .before .before .args in
     let g = c .before .before .before .before .literal .given .0 in
     let (are, small) = subst (RowAt (a .line .now) 0 1) (c .before .before .before .before .literal .given .1) (c .before .before .before .before .before .before .one .ensures) in

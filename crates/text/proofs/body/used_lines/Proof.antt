@@ -20,7 +20,7 @@ refusal-requires : tie.Need-refusal-requires
 refusal-requires c κs = search needs
 
 returns : tie.Need-returns
-returns c = 
+returns c =
     let a = c .before .before .before .before .before .args in
     subst (UsedLines (a .defined .now) (a .next .now) (a .inputs) (a .behind) (a .output)) (sym (c .refusal .ensures))
     (next-unknown (a .defined .now) (a .next .now) (a .inputs) (a .behind) (a .output) (c .before .before .first-unknown .result) (c .before .before .first-unknown .ensures) (c .before .if1 .taken))
@@ -41,13 +41,13 @@ refusal-requires-2 : tie.Need-refusal-requires-2
 refusal-requires-2 c κs = search needs
 
 returns-2 : tie.Need-returns-2
-returns-2 c = 
+returns-2 c =
     let a = c .before .before .before .before .before .before .before .before .args in
     subst (UsedLines (a .defined .now) (a .next .now) (a .inputs) (a .behind) (a .output)) (sym (c .refusal2 .ensures))
     (output-unknown (a .defined .now) (a .next .now) (a .inputs) (a .behind) (a .output) (c .before .before .before .before .before .first-unknown .result) (c .before .before .before .before .before .first-unknown .ensures) (c .before .before .before .before .if1 .left) (ap (unmarked (a .defined .now)) (sym (c .before .before .before .widen .ensures)) ∙ sym (c .before .before .is-unknown .ensures) ∙ c .before .if2 .taken))
 
 returns-3 : tie.Need-returns-3
-returns-3 c = 
+returns-3 c =
     let a = c .before .before .before .before .before .before .before .args in
     output-known (a .defined .now) (a .next .now) (a .inputs) (a .behind) (a .output) (c .before .before .before .before .first-unknown .result) (c .before .before .before .before .first-unknown .ensures) (c .before .before .before .if1 .left) (ap (unmarked (a .defined .now)) (sym (c .before .before .widen .ensures)) ∙ sym (c .before .is-unknown .ensures) ∙ c .if2 .left)
 

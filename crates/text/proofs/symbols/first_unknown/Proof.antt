@@ -31,7 +31,7 @@ is-unknown-requires : tie.Need-is-unknown-requires Inv-loop μ-loop
 is-unknown-requires c κs = search needs
 
 returns : tie.Need-returns Inv-loop μ-loop
-returns c = 
+returns c =
     let a = c .before .before .before .before .before .before .before .before .args in
     let l = c .before .before .before .before .before .loop in
     unknown-here (a .defined .now) (a .literals .now) (l .i) (l .inv .0) (c .before .before .before .before .loop-test .taken)
@@ -44,14 +44,16 @@ loop-less : tie.Need-loop-less Inv-loop μ-loop
 loop-less c = search needs
 
 loop-again : tie.Need-loop-again Inv-loop μ-loop
-loop-again c = 
+loop-again c =
     let a = c .before .before .before .before .before .before .before .before .args in
-    let l = c .before .before .before .before .before .loop in
-    (known-more (a .defined .now) (a .literals .now) (l .i) (l .inv .0) (c .before .before .before .before .loop-test .taken)
-    (ap (unmarked (a .defined .now)) (sym (c .before .before .widen .ensures)) ∙ sym (c .before .is-unknown .ensures) ∙ c .if1 .left), omega arith)
+    let l = c .before .before .before .before .before .loop in (
+      known-more (a .defined .now) (a .literals .now) (l .i) (l .inv .0) (c .before .before .before .before .loop-test .taken)
+          (ap (unmarked (a .defined .now)) (sym (c .before .before .widen .ensures)) ∙ sym (c .before .is-unknown .ensures) ∙ c .if1 .left),
+      omega arith,
+    )
 
 returns-2 : tie.Need-returns-2 Inv-loop μ-loop
-returns-2 c = 
+returns-2 c =
     let a = c .before .before .before .before .args in
     let l = c .before .loop in
     all-known (a .defined .now) (a .literals .now) (l .i) (l .inv .0) (l .inv .1) (c .loop-test .left)

@@ -18,7 +18,7 @@ shared-slice-read-result : tie.Need-shared-slice-read-result
 shared-slice-read-result c = search needs
 
 returns : tie.Need-returns
-returns c = 
+returns c =
     let line = c .before .before .before .before .args .line .now in
     sym
     (comment-two line (c .before .before .before .if1 .taken)
@@ -30,7 +30,7 @@ returns c =
     and-true false = refl
 
 returns-2 : tie.Need-returns-2
-returns-2 c = 
+returns-2 c =
     let line = c .before .before .before .args .line .now in
     sym
     (comment-two line (c .before .before .if1 .taken)

@@ -14,7 +14,7 @@ use Rattle.text.proofs.symbols.is_named.Statement.{statement}
 use Rattle.text.proofs.symbols.is_named.Tie as tie
 
 returns : tie.Need-returns
-returns c = 
+returns c =
     let a = c .before .before .args in
     sym (unnamed-past (a .line .now) (a .at) (c .if1 .taken))
 
@@ -22,7 +22,7 @@ shared-slice-read-if2 : tie.Need-shared-slice-read-if2
 shared-slice-read-if2 c = search needs
 
 returns-2 : tie.Need-returns-2
-returns-2 c = 
+returns-2 c =
     let a = c .before .before .before .before .args in
     sym
     (well-named (a .line .now) (a .at) (a .at + 1 + length (run isNameByte (drop (a .at + 1) (a .line .now)))) refl
@@ -35,7 +35,7 @@ name-end-requires : tie.Need-name-end-requires
 name-end-requires c κs = search needs
 
 returns-3 : tie.Need-returns-3
-returns-3 c = 
+returns-3 c =
     let a = c .before .before .before .before .before .before .args in
     let e = c .before .name-end in
     sym (well-named (a .line .now) (a .at) (e .result) (e .ensures) ∙ rw (eq-eqb (getD (a .line .now) (a .at) 0) 32 (c .before .before .if2 .left), ends-past (a .line .now) (e .result) (c .if3 .taken)))
@@ -44,7 +44,7 @@ shared-slice-read-if4 : tie.Need-shared-slice-read-if4
 shared-slice-read-if4 c = search needs
 
 returns-4 : tie.Need-returns-4
-returns-4 c = 
+returns-4 c =
     let a = c .before .before .before .before .before .before .before .before .args in
     let e = c .before .before .before .name-end in
     sym (well-named (a .line .now) (a .at) (e .result) (e .ensures) ∙ rw (eq-eqb (getD (a .line .now) (a .at) 0) 32 (c .before .before .before .before .if2 .left), ends-other (a .line .now) (e .result) (c .before .before .if3 .left) (c .if4 .taken)))
@@ -53,7 +53,7 @@ sub-if5 : tie.Need-sub-if5
 sub-if5 c = search needs
 
 returns-5 : tie.Need-returns-5
-returns-5 c = 
+returns-5 c =
     let a = c .before .before .before .before .before .before .before .before .before .args in
     let e = c .before .before .before .before .name-end in
     sym (well-named (a .line .now) (a .at) (e .result) (e .ensures) ∙ rw (eq-eqb (getD (a .line .now) (a .at) 0) 32 (c .before .before .before .before .before .if2 .left), ends-later (a .line .now) (e .result) (c .before .before .before .if3 .left) (c .if5 .taken)))
@@ -62,13 +62,13 @@ sub-size : tie.Need-sub-size
 sub-size c = search needs
 
 returns-6 : tie.Need-returns-6
-returns-6 c = 
+returns-6 c =
     let a = c .before .before .before .before .before .before .before .before .before .before .args in
     let e = c .before .before .before .before .before .name-end in
     sym (well-named (a .line .now) (a .at) (e .result) (e .ensures) ∙ rw (eq-eqb (getD (a .line .now) (a .at) 0) 32 (c .before .before .before .before .before .before .if2 .left), ends-here (a .line .now) (e .result) (c .before .before .before .before .if3 .left) (c .before .before .if4 .left) (c .before .if5 .left), lt-leb 1 (e .result - (a .at + 1)) (c .if6 .taken)))
 
 returns-7 : tie.Need-returns-7
-returns-7 c = 
+returns-7 c =
     let a = c .before .before .before .before .before .before .before .before .before .before .args in
     let e = c .before .before .before .before .before .name-end in
     sym (well-named (a .line .now) (a .at) (e .result) (e .ensures) ∙ rw (eq-eqb (getD (a .line .now) (a .at) 0) 32 (c .before .before .before .before .before .before .if2 .left), ends-here (a .line .now) (e .result) (c .before .before .before .before .if3 .left) (c .before .before .if4 .left) (c .before .if5 .left), le-leb 1 (e .result - (a .at + 1)) (c .if6 .left)))

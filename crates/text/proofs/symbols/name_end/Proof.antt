@@ -24,7 +24,7 @@ shared-slice-read-if1 : tie.Need-shared-slice-read-if1 Inv-loop μ-loop
 shared-slice-read-if1 c = search needs
 
 returns : tie.Need-returns Inv-loop μ-loop
-returns c = 
+returns c =
     let a = c .before .before .before .before .args in
     let l = c .before .before .before .loop in
     omega (arith, name-low (a .s .now) (l .i) (c .if1 .taken), l .inv)
@@ -33,7 +33,7 @@ shared-slice-read-if2 : tie.Need-shared-slice-read-if2 Inv-loop μ-loop
 shared-slice-read-if2 c = search needs
 
 returns-2 : tie.Need-returns-2 Inv-loop μ-loop
-returns-2 c = 
+returns-2 c =
     let a = c .before .before .before .before .before .before .args in
     let l = c .before .before .before .before .before .loop in
     omega (arith, name-high (a .s .now) (l .i) (c .if2 .taken), l .inv)
@@ -45,7 +45,7 @@ loop-less : tie.Need-loop-less Inv-loop μ-loop
 loop-less c = search needs
 
 loop-again : tie.Need-loop-again Inv-loop μ-loop
-loop-again c = 
+loop-again c =
     let a = c .before .before .before .before .before .before .args in
     let l = c .before .before .before .before .before .loop in
     rw add-one
@@ -53,7 +53,7 @@ loop-again c =
     (arith, name-goes-on (a .s .now) (l .i) (c .before .before .before .before .loop-test .taken) (c .before .before .if1 .left) (c .if2 .left), l .inv))
 
 returns-3 : tie.Need-returns-3 Inv-loop μ-loop
-returns-3 c = 
+returns-3 c =
     let a = c .before .before .args in
     let l = c .before .loop in
     omega (arith, name-past (a .s .now) (l .i) (c .loop-test .left), l .inv)

@@ -20,7 +20,7 @@ returns : tie.Need-returns Inv-loop μ-loop
 returns c = sym (prefix-past (c .before .args .prefix .now) (c .before .args .s .now) (c .before .args .at) (c .if1 .taken))
 
 loop-holds : tie.Need-loop-holds Inv-loop μ-loop
-loop-holds c = 
+loop-holds c =
     let a = c .before .args in
     ap (λ (i : ℕ). startsWith (a .prefix .now) (drop i (a .s .now))) (sym (add-zero (a .at)))
 
@@ -28,7 +28,7 @@ sub-if2 : tie.Need-sub-if2 Inv-loop μ-loop
 sub-if2 c = search needs
 
 returns-2 : tie.Need-returns-2 Inv-loop μ-loop
-returns-2 c = 
+returns-2 c =
     let a = c .before .before .before .before .args in
     let l = c .before .before .loop in
     sym (l .inv ∙ prefix-cut (a .prefix .now) (a .s .now) (a .at) (l .i) (c .before .loop-test .taken) (omega arith))
@@ -43,7 +43,7 @@ shared-slice-read-if3-2 : tie.Need-shared-slice-read-if3-2 Inv-loop μ-loop
 shared-slice-read-if3-2 c = search needs
 
 returns-3 : tie.Need-returns-3 Inv-loop μ-loop
-returns-3 c = 
+returns-3 c =
     let a = c .before .before .before .before .before .before .before .args in
     let l = c .before .before .before .before .before .loop in
     sym
@@ -56,13 +56,13 @@ loop-less : tie.Need-loop-less Inv-loop μ-loop
 loop-less c = search needs
 
 loop-again : tie.Need-loop-again Inv-loop μ-loop
-loop-again c = 
+loop-again c =
     let a = c .before .before .before .before .before .before .before .args in
     let l = c .before .before .before .before .before .loop in
     l .inv ∙ prefix-goes-on (a .prefix .now) (a .s .now) (a .at) (l .i) (c .before .before .before .before .loop-test .taken) (omega arith) (c .if3 .left)
 
 returns-4 : tie.Need-returns-4 Inv-loop μ-loop
-returns-4 c = 
+returns-4 c =
     let a = c .before .before .before .args in
     let l = c .before .loop in
     sym (l .inv ∙ prefix-met (a .prefix .now) (a .s .now) (a .at) (l .i) (c .loop-test .left))

@@ -21,7 +21,7 @@ is-set-requires : tie.Need-is-set-requires
 is-set-requires c κs = search needs
 
 returns : tie.Need-returns
-returns c = 
+returns c =
     let a = c .before .before .before .before .before .before .before .before .before .args in
     λ seen says. named-before (a .inputs) (a .latches) (a .named .now) (a .letter) (a .position) (a .line .now) (a .next) seen says (sym (c .before .before .before .before .before .before .is-named .ensures) ∙ c .before .before .before .before .before .if1 .taken) (subst (λ (m : ℕ). a .position < m) (c .before .before .before .before .positions-of .ensures) (c .before .before .before .if2 .taken)) (ap (λ (i : ℕ). eqb (getD (a .named .now) i 0) 1) (sym (c .before .before .slot-of .ensures)) ∙ sym (c .before .is-set .ensures) ∙ c .if3 .taken)
 
@@ -32,18 +32,18 @@ is-controllable-requires : tie.Need-is-controllable-requires
 is-controllable-requires c κs = search needs
 
 returns-2 : tie.Need-returns-2
-returns-2 c = 
+returns-2 c =
     let a = c .before .before .before .before .before .before .before .before .before .before .args in
     λ seen says.
     symbol-here (a .inputs) (a .latches) (a .named .now) (a .letter) (a .position) (a .line .now) (a .next) seen says (sym (c .before .before .before .before .before .before .before .is-named .ensures) ∙ c .before .before .before .before .before .before .if1 .taken) (subst (λ (m : ℕ). a .position < m) (c .before .before .before .before .before .positions-of .ensures) (c .before .before .before .before .if2 .taken)) (ap (λ (i : ℕ). eqb (getD (a .named .now) i 0) 1) (sym (c .before .before .before .slot-of .ensures)) ∙ sym (c .before .before .is-set .ensures) ∙ c .before .if3 .left) (c .before .before .before .slot-of .result) (c .is-controllable .result) (c .before .before .before .slot-of .ensures) (c .is-controllable .ensures)
 
 returns-3 : tie.Need-returns-3
-returns-3 c = 
+returns-3 c =
     let a = c .before .before .before .before .before .before .args in
     λ seen says. position-above (a .inputs) (a .latches) (a .named .now) (a .letter) (a .position) (a .line .now) (a .next) seen says (sym (c .before .before .before .is-named .ensures) ∙ c .before .before .if1 .taken) (subst (λ (m : ℕ). m ≤ a .position) (c .before .positions-of .ensures) (c .if2 .left))
 
 returns-4 : tie.Need-returns-4
-returns-4 c = 
+returns-4 c =
     let a = c .before .before .before .before .args in
     λ seen says. badly-named (a .inputs) (a .latches) (a .named .now) (a .letter) (a .position) (a .line .now) (a .next) seen says (sym (c .before .is-named .ensures) ∙ c .if1 .left)
 

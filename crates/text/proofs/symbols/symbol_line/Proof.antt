@@ -17,7 +17,7 @@ returns : tie.Need-returns
 returns c = sym (c .before .is-comment .ensures) ∙ c .if1 .taken
 
 returns-2 : tie.Need-returns-2
-returns-2 c = 
+returns-2 c =
     let a = c .before .before .before .before .before .args in
     ((sym (c .before .before .is-comment .ensures) ∙ c .before .if1 .left), λ seen says. symbol-empty (counted (a .inputs) (a .latches)) seen (a .line .now) (c .if2 .taken))
 
@@ -34,12 +34,13 @@ enum-told : tie.Need-enum-told
 enum-told c = search needs
 
 returns-3 : tie.Need-returns-3
-returns-3 c = 
-    let a = c .before .before .before .before .before .before .before .before .before .args in
-    ((sym (c .before .before .before .before .before .before .is-comment .ensures) ∙ c .before .before .before .before .before .if1 .left),
-    λ seen says.
-    symbol-unnumbered (counted (a .inputs) (a .latches)) seen (a .line .now) (omega (arith, c .before .before .before .before .if2 .left))
-    (subst (NumberAt (a .line .now) 1) (c .enum-told .given .1) (c .before .before .number-at .ensures)))
+returns-3 c =
+    let a = c .before .before .before .before .before .before .before .before .before .args in (
+      (sym (c .before .before .before .before .before .before .is-comment .ensures) ∙ c .before .before .before .before .before .if1 .left),
+      λ seen says.
+          symbol-unnumbered (counted (a .inputs) (a .latches)) seen (a .line .now) (omega (arith, c .before .before .before .before .if2 .left))
+          (subst (NumberAt (a .line .now) 1) (c .enum-told .given .1) (c .before .before .number-at .ensures)),
+    )
 
 symbol-at-requires : tie.Need-symbol-at-requires
 symbol-at-requires c κs =
@@ -48,7 +49,7 @@ symbol-at-requires c κs =
     omega (arith, c .before .before .before .before .before .before .before .before .before .before .good .0 .1)
 
 returns-4 : tie.Need-returns-4
-returns-4 c = 
+returns-4 c =
     let a = c .before .before .before .before .before .before .before .before .before .before .before .args in
     let (here, within, small) = subst (NumberAt (a .line .now) 1) (c .before .before .position .given .1) (c .before .before .before .before .number-at .ensures) in
     symbol-whole (a .inputs) (a .latches) (a .named .now) (getD (a .line .now) 0 0) (c .before .before .position .given .0 .0)

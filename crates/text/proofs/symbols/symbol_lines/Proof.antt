@@ -18,7 +18,7 @@ abbrev μ-loop : tie.MeasureT-loop
 μ-loop s from place inputs latches named₀ flags₀ at₀ i₀ named flags at i = length s - at
 
 loop-holds : tie.Need-loop-holds Inv-loop μ-loop
-loop-holds c = 
+loop-holds c =
     let a = c .before .before .before .args in
     symbolling-starts (a .inputs) (a .latches) (a .place) (a .s .now) (a .from) (a .named .now) (a .flags .now) (c .before .before .before .pre)
 
@@ -32,7 +32,7 @@ part-symbol-line-start : tie.Need-part-symbol-line-start Inv-loop μ-loop
 part-symbol-line-start c = search needs
 
 part-symbol-line-end : tie.Need-part-symbol-line-end Inv-loop μ-loop
-part-symbol-line-end c = 
+part-symbol-line-end c =
     let a = c .before .before .before .before .before .before .args in
     let l = c .before .before .loop in
     line-ends-within (a .s .now) (l .at) (c .line-end .result) (c .line-end .ensures) (l .inv .within)
@@ -50,7 +50,7 @@ same-length-2 : tie.Need-same-length-2 Inv-loop μ-loop
 same-length-2 c = search needs
 
 returns : tie.Need-returns Inv-loop μ-loop
-returns c = 
+returns c =
     let a = c .before .before .before .before .before .before .before .before .before .before .before .args in
     let l = c .before .before .before .before .before .before .before .loop in
     let e = c .before .before .before .before .before .line-end in
@@ -70,7 +70,7 @@ same-length-4 : tie.Need-same-length-4 Inv-loop μ-loop
 same-length-4 c = search needs
 
 returns-2 : tie.Need-returns-2 Inv-loop μ-loop
-returns-2 c = 
+returns-2 c =
     let a = c .before .before .before .before .before .before .before .before .before .before .before .args in
     let l = c .before .before .before .before .before .before .before .loop in
     let e = c .before .before .before .before .before .line-end in
@@ -90,13 +90,13 @@ add-i : tie.Need-add-i Inv-loop μ-loop
 add-i c = search needs
 
 loop-less : tie.Need-loop-less Inv-loop μ-loop
-loop-less c = 
+loop-less c =
     let a = c .before .before .before .before .before .before .before .before .before .before .before .before .before .before .before .before .before .before .before .before .args in
     let l = c .before .before .before .before .before .before .before .before .before .before .before .before .before .before .before .before .loop in
     omega (arith, line-positive (a .s .now) (l .at) (c .before .before .before .before .before .before .before .before .before .before .before .before .before .before .before .loop-test .taken), c .before .before .before .before .before .before .before .before .before .before .before .before .before .before .line-end .ensures, c .before .before .before .before .before .before .before .before .before .before .before .before .before .before .before .loop-test .taken)
 
 loop-again : tie.Need-loop-again Inv-loop μ-loop
-loop-again c = 
+loop-again c =
     let a = c .before .before .before .before .before .before .before .before .before .before .before .before .before .before .before .before .before .before .before .before .args in
     let l = c .before .before .before .before .before .before .before .before .before .before .before .before .before .before .before .before .loop in
     let e = c .before .before .before .before .before .before .before .before .before .before .before .before .before .before .line-end in
@@ -112,7 +112,7 @@ same-length-6 : tie.Need-same-length-6 Inv-loop μ-loop
 same-length-6 c = search needs
 
 returns-3 : tie.Need-returns-3 Inv-loop μ-loop
-returns-3 c = 
+returns-3 c =
     let a = c .before .before .before .before .before .args in
     let l = c .before .loop in
     symbolling-ends (a .inputs) (a .latches) (a .place) (a .s .now) (a .from) (l .named) (l .flags) (l .at) (l .i) (l .inv) (c .loop-test .left)
