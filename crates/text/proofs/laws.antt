@@ -1,1 +1,4 @@
 pub mod Alarms
+pub mod Run
+pub mod Number
+pub mod Line
