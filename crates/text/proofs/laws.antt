@@ -1,4 +1,7 @@
 pub mod Alarms
+pub mod Outcome
 pub mod Run
 pub mod Number
 pub mod Line
+pub mod Section
+pub mod Symbol

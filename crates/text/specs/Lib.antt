@@ -8,4 +8,5 @@ pub mod Symbol
 pub mod TextFile
 pub mod Read
 pub mod Written
+pub mod WellFormed
 pub mod Printed

@@ -7,7 +7,7 @@ use mathlib.Core.List.{List, [], _∷_, _++_, map, flatMap, append-assoc}
 use mathlib.Core.Option.{Option, none, some}
 use mathlib.Core.Path.{_≡_, refl, sym, ap, ap₂, _∙_, subst}
 use lib.Dec.{eqb}
-use lib.ListN.{length, getD, drop}
+use lib.ListN.{length, getD, drop, length-append}
 use borrow.Author.Tests.{eqb-true, eq-eqb, ne-eqb, not-true}
 use Rattle.bits.specs.Digits.{AllBelow}
 use Rattle.text.specs.Line.{before, lines, prepend, fields, separators, numbersOf}
@@ -68,6 +68,9 @@ number-line-is-line (n ∷ m ∷ ns) =
       whole = rw (rest .whole) (sym (append-assoc (decimal n) (32 ∷ rest .front) (10 ∷ [])));
     }
 
+pub number-line-some : (ns : List ℕ) → 1 ≤ length (numberLine ns)
+number-line-some ns = let l : IsLine (numberLine ns) = number-line-is-line ns in rw (l .whole) (omega (arith, length-append (l .front) (10 ∷ [])))
+
 pub lines-rows : (rows : List (List ℕ)) (rest : List ℕ) → lines (flatMap numberLine rows ++ rest) ≡ map numberLine rows ++ lines rest
 unfolding flatMap
 lines-rows [] rest = refl
@@ -92,7 +95,7 @@ record First (p : ℕ) (ps t fs : List ℕ) : Type 0 where
   others : fields ps (drop 1 rest) ≡ some more
   all : fs ≡ value ∷ more
 
-none-is-not-some : {A : Type 0} (a : A) → none ≡ some a → ⊥
+pub none-is-not-some : {A : Type 0} (a : A) → none ≡ some a → ⊥
 none-is-not-some a e = subst (λ o. elim o as (λ x. Type 0) [ none ↦ Unit {0} | some b ↦ ⊥ ]) e tt
 
 first : (p : ℕ) (ps t fs : List ℕ) → fields (p ∷ ps) t ≡ some fs → First p ps t fs
@@ -117,7 +120,7 @@ pub record LineIs (n : ℕ) (t fs : List ℕ) : Type 0 where
   pub text : t ≡ numberLine fs
   pub below : AllBelow (10 ^ 7) fs
 
-starts : (p : ℕ) (t : List ℕ) → getD t 0 0 ≡ p → 0 < p → t ≡ p ∷ drop 1 t
+pub starts : (p : ℕ) (t : List ℕ) → getD t 0 0 ≡ p → 0 < p → t ≡ p ∷ drop 1 t
 starts p [] e h = absurd (omega arith)
 starts p (b ∷ t) e h = ap {B = List ℕ} (λ x. x ∷ t) e
 

@@ -1,0 +1,30 @@
+-- One call after the other: all are taken exactly if each is, and a refusal is that of the first that refuses. Assumes nothing.
+use Prim.Native.Nat.{ℕ}
+use mathlib.Core.Bool.{Bool, true, false}
+use mathlib.Core.Logic.{_⊎_, inl, inr}
+use mathlib.Core.Path.{_≡_, refl, sym, subst}
+use Rattle.circuit.specs.Outcome.{Outcome, taken, refused, _>>=_, _>>_, refuseIf}
+
+abbrev IsRefused : {A : Type 0} → Outcome A → Type 0
+IsRefused (taken a) = ⊥
+IsRefused (refused number place) = Unit {0}
+
+pub refused-is-not-taken : {A : Type 0} (number place : ℕ) (a : A) → refused number place ≡ taken a → ⊥
+refused-is-not-taken number place a e = subst IsRefused e tt
+
+pub taken-is-not-refused : {A : Type 0} (number place : ℕ) (a : A) → taken a ≡ refused number place → ⊥
+taken-is-not-refused number place a e = subst IsRefused (sym e) tt
+
+module _ {A B : Type 0} where
+  pub bind-taken : (o : Outcome A) (f : A → Outcome B) (b : B) → (o >>= f) ≡ taken b → (a : A) × (o ≡ taken a) × (f a ≡ taken b)
+  bind-taken (taken a) f b e = (a, refl, e)
+  bind-taken (refused number place) f b e = absurd (refused-is-not-taken number place b e)
+
+  pub then-taken : (o : Outcome A) (next : Outcome B) (b : B) → (o >> next) ≡ taken b → (a : A) × (o ≡ taken a) × (next ≡ taken b)
+  then-taken (taken a) next b e = (a, refl, e)
+  then-taken (refused number place) next b e = absurd (refused-is-not-taken number place b e)
+
+pub refuse-none : (t : Bool) (number place : ℕ) (u : Unit {0}) → refuseIf t number place ≡ taken u → t ≡ false
+unfolding refuseIf
+refuse-none true number place u e = absurd (refused-is-not-taken number place u e)
+refuse-none false number place u e = refl
