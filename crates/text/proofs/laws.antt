@@ -1,7 +1,9 @@
 pub mod Alarms
 pub mod Outcome
+pub mod Lists
 pub mod Run
 pub mod Number
 pub mod Line
 pub mod Section
+pub mod Rules
 pub mod Symbol
