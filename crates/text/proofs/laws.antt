@@ -6,4 +6,6 @@ pub mod Number
 pub mod Line
 pub mod Section
 pub mod Rules
+pub mod Used
 pub mod Symbol
+pub mod SymbolRule
