@@ -9,3 +9,5 @@ pub mod Rules
 pub mod Used
 pub mod Symbol
 pub mod SymbolRule
+pub mod Lines
+pub mod Complete

@@ -1,7 +1,7 @@
 -- Each element, each pair, and standing in a list: what the tests of the reader say in these words. Assumes nothing.
 use Prim.Native.Nat.{ℕ}
 use mathlib.Core.Bool.{Bool, true, false, _||_, true≢false}
-use mathlib.Core.List.{List, [], _∷_, _++_, append-assoc}
+use mathlib.Core.List.{List, [], _∷_, _++_, map, append-nil, append-assoc}
 use mathlib.Core.Logic.{_⊎_, inl, inr, _≢_}
 use mathlib.Core.Path.{_≡_, refl, sym, ap, _∙_, subst}
 use lib.Dec.{eqb}
@@ -37,6 +37,14 @@ module _ {A : Type 0} where
   all-weaker P Q w [] a = tt
   all-weaker P Q w (x ∷ xs) a = (w x (a .0), all-weaker P Q w xs (a .1))
 
+  pub all-map : {B : Type 0} (P : B → Type 0) (g : A → B) (xs : List A) → All (λ x. P (g x)) xs → All P (map g xs)
+  all-map P g [] a = tt
+  all-map P g (x ∷ xs) a = (a .0, all-map P g xs (a .1))
+
+  pub map-all : {B : Type 0} (P : B → Type 0) (g : A → B) (xs : List A) → All P (map g xs) → All (λ x. P (g x)) xs
+  map-all P g [] a = tt
+  map-all P g (x ∷ xs) a = (a .0, map-all P g xs (a .1))
+
   -- each element of the second list with each that stands before it, those seen among them
   abbrev pub Fresh : (A → A → Type 0) → List A → List A → Type 0
   Fresh R seen [] = Unit {0}
@@ -60,7 +68,7 @@ module _ {A : Type 0} where
   one-behind R (y ∷ seen) x p a = (all-append (R y) seen (x ∷ []) (p .0) (a .0, tt), one-behind R seen x (p .1) (a .1))
 
   pub fresh-pairs : (R : A → A → Type 0) (seen xs : List A) → Pairs R seen → Fresh R seen xs → Pairs R (seen ++ xs)
-  fresh-pairs R seen [] p f = subst (Pairs R) (sym (mathlib.Core.List.append-nil seen)) p
+  fresh-pairs R seen [] p f = subst (Pairs R) (sym (append-nil seen)) p
   fresh-pairs R seen (x ∷ xs) p f =
       subst (Pairs R) (append-assoc seen (x ∷ []) xs) (fresh-pairs R (seen ++ (x ∷ [])) xs (one-behind R seen x p (f .0)) (f .1))
 
