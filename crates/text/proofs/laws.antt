@@ -11,3 +11,4 @@ pub mod Symbol
 pub mod SymbolRule
 pub mod Lines
 pub mod Complete
+pub mod Sound

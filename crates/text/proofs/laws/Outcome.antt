@@ -28,3 +28,6 @@ pub refuse-none : (t : Bool) (number place : ℕ) (u : Unit {0}) → refuseIf t 
 unfolding refuseIf
 refuse-none true number place u e = absurd (refused-is-not-taken number place u e)
 refuse-none false number place u e = refl
+
+pub taken-is : {A : Type 0} (a b : A) → taken a ≡ taken b → a ≡ b
+taken-is a b e = cc

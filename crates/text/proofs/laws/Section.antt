@@ -102,3 +102,20 @@ section-is rule c (suc n) place b after e t =
     let (fs, here, there) = bind-taken (judged rule (b .defined) place (numbersOf (rule .count) (getD (b .rest) 0 []))) (λ gs. section rule n (suc place) (withRow rule b gs)) after t in
     let (f, line) = judged-is rule c (b .defined) place (getD (b .rest) 0 []) fs e here in
     one-line-more rule n b after fs f line (section-is rule c n (suc place) (withRow rule b fs) after e there)
+
+-- a section that was taken from its start
+pub record Whole (rule : Rule) (n : ℕ) (defined : List ℕ) (rest : List (List ℕ)) (after : Body) : Type 0 where
+  pub count : length (after .rows) ≡ n
+  pub known : after .defined ≡ defined ++ news rule (after .rows)
+  pub lines : rest ≡ map numberLine (after .rows) ++ after .rest
+  pub fine : AllFine rule defined (after .rows)
+
+pub section-whole : (rule : Rule) (c n place : ℕ) (defined : List ℕ) (rest : List (List ℕ)) (after : Body) → rule .count ≡ suc c → section rule n place (record { rows = []; defined = defined; rest = rest }) ≡ taken after → Whole rule n defined rest after
+section-whole rule c n place defined rest after e s =
+    let t : Taken rule n (record { rows = []; defined = defined; rest = rest }) after = section-is rule c n place (record { rows = []; defined = defined; rest = rest }) after e s in
+    record {
+      count = ap length (t .all) ∙ t .count;
+      known = t .defined ∙ ap (λ (r : List (List ℕ)). defined ++ news rule r) (sym (t .all));
+      lines = t .lines ∙ ap (λ (r : List (List ℕ)). map numberLine r ++ after .rest) (sym (t .all));
+      fine = subst (AllFine rule defined) (sym (t .all)) (t .fine);
+    }
