@@ -12,3 +12,4 @@ pub mod SymbolRule
 pub mod Lines
 pub mod Complete
 pub mod Sound
+pub mod Agree
