@@ -4,6 +4,7 @@ pub mod Lists
 pub mod Run
 pub mod Number
 pub mod Line
+pub mod Header
 pub mod Section
 pub mod Rules
 pub mod Used

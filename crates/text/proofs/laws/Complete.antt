@@ -9,7 +9,7 @@ use mathlib.Core.Path.{_≡_, refl, sym, ap, ap₂, _∙_, subst}
 use lib.Dec.{eqb, leb, ltb}
 use lib.ListN.{length, getD, drop, length-map}
 use borrow.Author.Tests.{le-ltb, le-leb, eq-eqb}
-use Rattle.bits.specs.Bytes.{ascii, startsWith}
+use Rattle.bits.specs.Digits.{AllBelow}
 use Rattle.circuit.specs.Circuit.{Latch, Gate}
 use Rattle.circuit.specs.Limits.{Limits}
 use Rattle.circuit.specs.Literal.{variable}
@@ -24,13 +24,13 @@ use Rattle.text.specs.Symbol.{symbolLines}
 use Rattle.text.specs.TextFile.{TextFile}
 use Rattle.text.specs.WellFormed.{WellFormed, All, Pairs, Known, Apart, ofInputsAndLatches, definedIn}
 use Rattle.text.specs.Written.{numberLine, textOf}
-use Rattle.text.proofs.laws.Line.{numbers-line}
-use Rattle.text.proofs.laws.Lines.{headerRow, headerLine, bodyLines, behindText, lines-text}
+use Rattle.text.proofs.laws.Header.{headerFor, rowOf, header-numbers, Within, within-of}
+use Rattle.text.proofs.laws.Lines.{headerLine, bodyLines, behindText, lines-text}
 use Rattle.text.proofs.laws.Lists.{Fresh, all-append, all-map, pairs-left, pairs-fresh}
 use Rattle.text.proofs.laws.Rules.{inputRow, latchRow, gateRow, inputs-fine, latches-fine, output-fine, gates-fine, news-items}
 use Rattle.text.proofs.laws.Section.{AllFine, section-fine}
 use Rattle.text.proofs.laws.Symbol.{symbol-lines-good}
-use Rattle.text.proofs.laws.SymbolRule.{headerFor, symbols-good}
+use Rattle.text.proofs.laws.SymbolRule.{symbols-good}
 use Rattle.text.proofs.laws.Used.{used-known}
 
 -- a section of items that define, none of its lines at fault
@@ -119,18 +119,13 @@ module _ (limits : Limits) (f : TextFile) (w : WellFormed limits f) where
         comment = f .comment;
       }))
 
-  header-read : headerNumbers (headerLine f) ≡ some (headerRow f)
-  unfolding headerNumbers startsWith
-  header-read =
-      numbers-line (f .largest) (length (f .inputs) ∷ length (f .latches) ∷ 1 ∷ length (f .gates) ∷ [])
-      (omega (arith, w .digits), (omega (arith, w .digits, w .room), (omega (arith, w .digits, w .room), (omega arith, (omega (arith, w .digits, w .room), tt)))))
+  header-below : AllBelow (10 ^ 7) (rowOf (headerFor f))
+  header-below = (omega (arith, w .digits), (omega (arith, w .digits, w .room), (omega (arith, w .digits, w .room), (omega arith, (omega (arith, w .digits, w .room), tt)))))
 
-  header-within : limits .outputs ≡ 1 → withinLimits limits (headerFor f) ≡ true
-  unfolding withinLimits
-  header-within one =
-      rw (le-leb (f .largest) (limits .variable) (w .largest), le-leb (length (f .inputs)) (limits .inputs) (w .inputCount), le-leb (length (f .latches)) (limits .latches) (w .latchCount), eq-eqb 1 (limits .outputs) (sym one), le-leb (length (f .inputs) + length (f .latches) + length (f .gates)) (f .largest) (w .room))
+  header-within : limits .outputs ≡ 1 → Within limits (headerFor f)
+  header-within one = record { largest = w .largest; inputs = w .inputCount; latches = w .latchCount; outputs = sym one; room = w .room }
 
   pub complete : limits .outputs ≡ 1 → fileRead limits (textOf f) ≡ taken f
   unfolding fileRead refuseIf orBadHeader headerOf
   complete one =
-      rw (le-ltb (limits .file) (length (textOf f)) (w .file), lines-text f, header-read, header-within one) lines-taken
+      rw (le-ltb (limits .file) (length (textOf f)) (w .file), lines-text f, header-numbers (headerFor f) header-below, within-of limits (headerFor f) (header-within one)) lines-taken

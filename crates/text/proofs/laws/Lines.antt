@@ -13,14 +13,12 @@ use Rattle.text.specs.Line.{lines}
 use Rattle.text.specs.Symbol.{Symbol}
 use Rattle.text.specs.TextFile.{TextFile}
 use Rattle.text.specs.Written.{numberLine, symbolLine, commentText, textOf}
+use Rattle.text.proofs.laws.Header.{rowOf, headerFor, header-is-line}
 use Rattle.text.proofs.laws.Line.{IsLine, lines-first, lines-rows, number-line-is-line}
 use Rattle.text.proofs.laws.Rules.{inputRow, latchRow, gateRow}
 
-abbrev pub headerRow : TextFile → List ℕ
-headerRow f = f .largest ∷ length (f .inputs) ∷ length (f .latches) ∷ 1 ∷ length (f .gates) ∷ []
-
 abbrev pub headerLine : TextFile → List ℕ
-headerLine f = word ++ numberLine (headerRow f)
+headerLine f = word ++ numberLine (rowOf (headerFor f))
 
 -- what stands behind the gates
 abbrev pub behindText : TextFile → List ℕ
@@ -48,16 +46,11 @@ text-by-rows f =
     regroup (headerLine f) (flatMap (λ x. numberLine (inputRow x)) (f .inputs)) (flatMap (λ x. numberLine (latchRow x)) (f .latches)) (numberLine (f .output ∷ [])) (flatMap (λ x. numberLine (gateRow x)) (f .gates)) (flatMap symbolLine (f .symbols)) (commentText (f .comment))
     ∙ λ i. headerLine f ++ (flat-rows inputRow (f .inputs) i ++ (flat-rows latchRow (f .latches) i ++ (numberLine (f .output ∷ []) ++ (flat-rows gateRow (f .gates) i ++ behindText f))))
 
-header-is-line : (f : TextFile) → IsLine (headerLine f)
-header-is-line f =
-    let l : IsLine (numberLine (headerRow f)) = number-line-is-line (headerRow f) in
-    record { front = word ++ l .front; each = (refl, (refl, (refl, (refl, l .each)))); whole = ap {B = List ℕ} (λ t. word ++ t) (l .whole) }
-
 pub lines-text : (f : TextFile) → lines (textOf f) ≡ headerLine f ∷ bodyLines f (lines (behindText f))
 unfolding flatMap
 lines-text f =
     ap lines (text-by-rows f)
-    ∙ lines-first (headerLine f) (flatMap numberLine is ++ (flatMap numberLine ls ++ (numberLine (f .output ∷ []) ++ (flatMap numberLine gs ++ behindText f)))) (header-is-line f)
+    ∙ lines-first (headerLine f) (flatMap numberLine is ++ (flatMap numberLine ls ++ (numberLine (f .output ∷ []) ++ (flatMap numberLine gs ++ behindText f)))) (header-is-line (headerFor f))
     ∙ ap {B = List (List ℕ)} (λ r. headerLine f ∷ r) (lines-rows is (flatMap numberLine ls ++ (numberLine (f .output ∷ []) ++ (flatMap numberLine gs ++ behindText f))))
     ∙ ap {B = List (List ℕ)} (λ r. headerLine f ∷ (map numberLine is ++ r)) (lines-rows ls (numberLine (f .output ∷ []) ++ (flatMap numberLine gs ++ behindText f)))
     ∙ ap {B = List (List ℕ)} (λ r. headerLine f ∷ (map numberLine is ++ (map numberLine ls ++ r))) (lines-first (numberLine (f .output ∷ [])) (flatMap numberLine gs ++ behindText f) (number-line-is-line (f .output ∷ [])))

@@ -10,15 +10,13 @@ use mathlib.Core.Path.{_≡_, refl, sym, ap, ap₂, _∙_, subst}
 use lib.Dec.{eqb, leb, ltb}
 use lib.ListN.{length, getD, drop, length-map}
 use borrow.Author.Tests.{ltb-false, leb-true, eqb-true, not-false}
-use Rattle.bits.specs.Bytes.{ascii, startsWith}
-use Rattle.bits.proofs.laws.Bytes.{both-true, starts-with-splits}
 use Rattle.circuit.specs.Circuit.{Latch, Gate}
 use Rattle.circuit.specs.Limits.{Limits}
 use Rattle.circuit.specs.Literal.{variable}
 use Rattle.circuit.specs.Outcome.{Outcome, taken, refused, _>>=_, _>>_, refuseIf}
 use Rattle.text.specs.Header.{Header, word, headerNumbers, headerOf, withinLimits}
 use Rattle.text.specs.Line.{lines, numbersOf}
-use Rattle.text.specs.Numbers.{fileTooLong, badHeader, headerLimit}
+use Rattle.text.specs.Numbers.{fileTooLong, headerLimit}
 use Rattle.text.specs.Read.{latchOf, gateOf, orBadHeader, linesRead, fileRead}
 use Rattle.text.specs.Rules.{Rule, inputRule, latchRule, outputRule, gateRule}
 use Rattle.text.specs.Section.{Body, section, onward, used}
@@ -26,14 +24,15 @@ use Rattle.text.specs.Symbol.{Symbols, symbolLines}
 use Rattle.text.specs.TextFile.{TextFile}
 use Rattle.text.specs.WellFormed.{WellFormed, All, Pairs, Defining, LatchLine, GateLine, Known, Operands, Apart, SymbolLine, ofInputsAndLatches, definedIn}
 use Rattle.text.specs.Written.{numberLine, symbolLine, commentText, textOf}
-use Rattle.text.proofs.laws.Line.{LineIs, numbers-is, flat-lines}
-use Rattle.text.proofs.laws.Lines.{headerRow, headerLine, behindText, text-by-rows}
+use Rattle.text.proofs.laws.Header.{headerFor, rowOf, Headed, headed-lines, header-taken, Within, within-is}
+use Rattle.text.proofs.laws.Line.{flat-lines}
+use Rattle.text.proofs.laws.Lines.{behindText, text-by-rows}
 use Rattle.text.proofs.laws.Lists.{Fresh, all-left, all-right, all-map, map-all, fresh-pairs}
-use Rattle.text.proofs.laws.Outcome.{refused-is-not-taken, bind-taken, then-taken, refuse-none, taken-is}
+use Rattle.text.proofs.laws.Outcome.{bind-taken, then-taken, refuse-none, taken-is}
 use Rattle.text.proofs.laws.Rules.{inputRow, latchRow, gateRow, LinesAre, inputs-are, latches-are, output-is, gates-are, news-items}
 use Rattle.text.proofs.laws.Section.{news, AllFine, Whole, section-whole}
 use Rattle.text.proofs.laws.Symbol.{AllGood, SymbolsAre, symbol-lines-are}
-use Rattle.text.proofs.laws.SymbolRule.{headerFor, good-symbols}
+use Rattle.text.proofs.laws.SymbolRule.{good-symbols}
 use Rattle.text.proofs.laws.Used.{known-used}
 
 -- the file that sections, output and symbols make
@@ -208,64 +207,9 @@ module _ (h : Header) (rest : List (List ℕ)) (f : TextFile) (p : Parts h rest 
       (latch-lines .fresh))
       (gate-lines .0 .fresh)
 
--- the numbers of a header
-abbrev rowOf : Header → List ℕ
-rowOf h = h .largest ∷ h .inputs ∷ h .latches ∷ h .outputs ∷ h .gates ∷ []
-
-five : (fs : List ℕ) → length fs ≡ 5 → fs ≡ rowOf (headerOf fs)
-unfolding headerOf
-five [] e = absurd (omega (arith, e))
-five (a ∷ []) e = absurd (omega (arith, e))
-five (a ∷ b ∷ []) e = absurd (omega (arith, e))
-five (a ∷ b ∷ c ∷ []) e = absurd (omega (arith, e))
-five (a ∷ b ∷ c ∷ d ∷ []) e = absurd (omega (arith, e))
-five (a ∷ b ∷ c ∷ d ∷ g ∷ []) e = refl
-five (a ∷ b ∷ c ∷ d ∷ g ∷ x ∷ xs) e = absurd (omega (arith, e))
-
--- a first line that was taken is the word and five numbers
-pub header-is : (line : List ℕ) (h : Header) → orBadHeader (headerNumbers line) ≡ taken h → line ≡ word ++ numberLine (rowOf h)
-unfolding orBadHeader headerNumbers
-header-is line h e = by (startsWith word line) refl
-  where
-    with-numbers : startsWith word line ≡ true → (o : Option (List ℕ)) → numbersOf 5 (drop 4 line) ≡ o → orBadHeader o ≡ taken h → line ≡ word ++ numberLine (rowOf h)
-    with-numbers s none n t = absurd (refused-is-not-taken badHeader 1 h t)
-    with-numbers s (some fs) n t =
-        let i : LineIs 5 (drop 4 line) fs = numbers-is 4 (drop 4 line) fs n in
-        starts-with-splits word line s ∙ ap {B = List ℕ} (λ x. word ++ x) (i .text ∙ ap numberLine (five fs (i .count) ∙ ap rowOf (taken-is (headerOf fs) h t)))
-
-    by : (u : Bool) → startsWith word line ≡ u → line ≡ word ++ numberLine (rowOf h)
-    by true s = with-numbers s (numbersOf 5 (drop 4 line)) refl (rw s at e)
-    by false s = absurd (refused-is-not-taken badHeader 1 h (rw s at e))
-
--- what the limits ask of a header
-pub record Within (limits : Limits) (h : Header) : Type 0 where
-  pub largest : h .largest ≤ limits .variable
-  pub inputs : h .inputs ≤ limits .inputs
-  pub latches : h .latches ≤ limits .latches
-  pub outputs : h .outputs ≡ limits .outputs
-  pub room : h .inputs + h .latches + h .gates ≤ h .largest
-
-pub within-is : (limits : Limits) (h : Header) → withinLimits limits h ≡ true → Within limits h
-unfolding withinLimits
-within-is limits h e =
-    let a : Bool = leb (h .largest) (limits .variable) in
-    let b : Bool = leb (h .inputs) (limits .inputs) in
-    let c : Bool = leb (h .latches) (limits .latches) in
-    let d : Bool = eqb (h .outputs) (limits .outputs) in
-    let (e4, room) = both-true (a && b && c && d) (leb (h .inputs + h .latches + h .gates) (h .largest)) e in
-    let (e3, outputs) = both-true (a && b && c) d e4 in
-    let (e2, latches) = both-true (a && b) c e3 in
-    let (largest, inputs) = both-true a b e2 in
-    record { largest = leb-true _ _ largest; inputs = leb-true _ _ inputs; latches = leb-true _ _ latches; outputs = eqb-true _ _ outputs; room = leb-true _ _ room }
-
-first-and-rest : (ls : List (List ℕ)) → flatMap (λ l. l) ls ≡ getD ls 0 [] ++ flatMap (λ l. l) (drop 1 ls)
-unfolding flatMap
-first-and-rest [] = refl
-first-and-rest (l ∷ ls) = refl
-
 module _ (limits : Limits) (bytes : List ℕ) (f : TextFile) (one : limits .outputs ≡ 1) (small : 2 * limits .variable + 1 < 10 ^ 7) where
   -- each part of reading a file was taken, so the file is its text
-  assembled : (h : Header) (p : Parts h (drop 1 (lines bytes)) f) → length bytes ≤ limits .file → getD (lines bytes) 0 [] ≡ word ++ numberLine (rowOf h) → Within limits h → (bytes ≡ textOf (F h (drop 1 (lines bytes)) f p)) × WellFormed limits (F h (drop 1 (lines bytes)) f p)
+  assembled : (h : Header) (p : Parts h (drop 1 (lines bytes)) f) → length bytes ≤ limits .file → Headed bytes h → Within limits h → (bytes ≡ textOf (F h (drop 1 (lines bytes)) f p)) × WellFormed limits (F h (drop 1 (lines bytes)) f p)
   assembled h p long first w = (same, form)
     where
       rest : List (List ℕ)
@@ -280,11 +224,13 @@ module _ (limits : Limits) (bytes : List ℕ) (f : TextFile) (one : limits .outp
       header : h ≡ headerFor G
       header = header-same h rest f p h-one
 
+      behind : first .rest ≡ flatMap (λ l. l) rest
+      behind = sym (flat-lines (first .rest)) ∙ ap (λ (ls : List (List ℕ)). flatMap (λ l. l) (drop 1 ls)) (sym (headed-lines bytes h first))
+
       same : bytes ≡ textOf G
       same =
-          sym (flat-lines bytes)
-          ∙ first-and-rest (lines bytes)
-          ∙ ap₂ {C = List ℕ} (λ a b. a ++ b) (first ∙ ap (λ (k : Header). word ++ numberLine (rowOf k)) header) (body-text h rest f p)
+          first .text
+          ∙ ap₂ {C = List ℕ} (λ a b. a ++ b) (ap (λ (k : Header). word ++ numberLine (rowOf k)) header) (behind ∙ body-text h rest f p)
           ∙ sym (text-by-rows G)
 
       within : Within limits (headerFor G)
@@ -319,4 +265,4 @@ module _ (limits : Limits) (bytes : List ℕ) (f : TextFile) (one : limits .outp
       let (v, c, e3) = then-taken _ _ f e2 in
       let p : Parts h (drop 1 (lines bytes)) f = parts h (drop 1 (lines bytes)) f e3 in
       subst (λ (g : TextFile). (bytes ≡ textOf g) × WellFormed limits g) (p .whole)
-      (assembled h p (ltb-false (limits .file) (length bytes) (refuse-none _ fileTooLong 0 u a)) (header-is (getD (lines bytes) 0 []) h b) (within-is limits h (not-false _ (refuse-none _ headerLimit 1 v c))))
+      (assembled h p (ltb-false (limits .file) (length bytes) (refuse-none _ fileTooLong 0 u a)) (header-taken bytes h b) (within-is limits h (not-false _ (refuse-none _ headerLimit 1 v c))))

@@ -11,24 +11,13 @@ use lib.ListN.{length}
 use borrow.Author.Tests.{eqb-true, eqb-false, eq-eqb, ne-eqb, le-leb, leb-true}
 use Rattle.below.specs.Among.{among}
 use Rattle.bits.proofs.laws.Bytes.{both-true}
-use Rattle.text.specs.Header.{Header}
 use Rattle.text.specs.Symbol.{Symbol, inputLetter, latchLetter, outputLetter, positions, isNameByte, isName, names}
 use Rattle.text.specs.TextFile.{TextFile}
 use Rattle.text.specs.WellFormed.{All, Pairs, Placed, ofInput, ofLatch, ofOutput, SymbolLine, Apart}
+use Rattle.text.proofs.laws.Header.{headerFor}
 use Rattle.text.proofs.laws.Lists.{all-weaker, Fresh, among-none, none-among}
 use Rattle.text.proofs.laws.Run.{Each}
 use Rattle.text.proofs.laws.Symbol.{Good, AllGood}
-
--- the header of a file
-abbrev pub headerFor : TextFile → Header
-headerFor f =
-    record {
-      largest = f .largest;
-      inputs = length (f .inputs);
-      latches = length (f .latches);
-      outputs = 1;
-      gates = length (f .gates);
-    }
 
 placed-within : (f : TextFile) (s : Symbol) → Placed f s → s .position < positions (headerFor f) (s .letter)
 unfolding positions
