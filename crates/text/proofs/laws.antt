@@ -14,3 +14,4 @@ pub mod Lines
 pub mod Complete
 pub mod Sound
 pub mod Agree
+pub mod Broken

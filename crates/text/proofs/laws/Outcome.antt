@@ -31,3 +31,14 @@ refuse-none false number place u e = refl
 
 pub taken-is : {A : Type 0} (a b : A) → taken a ≡ taken b → a ≡ b
 taken-is a b e = cc
+
+-- number and place of a refusal
+pub refused-number : {A : Type 0} (number place m q : ℕ) → _≡_ {A = Outcome A} (refused number place) (refused m q) → number ≡ m
+refused-number number place m q e = cc
+
+pub refused-place : {A : Type 0} (number place m q : ℕ) → _≡_ {A = Outcome A} (refused number place) (refused m q) → place ≡ q
+refused-place number place m q e = cc
+
+-- the same refusal of another kind of call
+pub moved : {A B : Type 0} (number place m q : ℕ) → _≡_ {A = Outcome A} (refused number place) (refused m q) → _≡_ {A = Outcome B} (refused number place) (refused m q)
+moved number place m q e = λ x. refused (refused-number number place m q e x) (refused-place number place m q e x)
