@@ -14,4 +14,5 @@ pub mod Lines
 pub mod Complete
 pub mod Sound
 pub mod Agree
+pub mod Fault
 pub mod Broken
