@@ -12,7 +12,9 @@ pub mod Symbol
 pub mod SymbolRule
 pub mod Lines
 pub mod Complete
+pub mod Stages
 pub mod Sound
 pub mod Agree
 pub mod Fault
 pub mod Broken
+pub mod BodyBroken

@@ -31,48 +31,10 @@ use Rattle.text.proofs.laws.Lists.{Fresh, all-left, all-right, all-map,
 use Rattle.text.proofs.laws.Outcome.{bind-taken, then-taken, refuse-none, taken-is}
 use Rattle.text.proofs.laws.Rules.{inputRow, latchRow, gateRow, LinesAre, inputs-are, latches-are, output-is, gates-are, news-items}
 use Rattle.text.proofs.laws.Section.{news, AllFine, Whole, section-whole}
+use Rattle.text.proofs.laws.Stages.{lateOf, fileOf, Parts, parts}
 use Rattle.text.proofs.laws.Symbol.{AllGood, SymbolsAre, symbol-lines-are}
 use Rattle.text.proofs.laws.SymbolRule.{good-symbols}
 use Rattle.text.proofs.laws.Used.{known-used}
-
--- the file that sections, output and symbols make
-abbrev fileOf : Header → (inputs latches output gates : Body) → Symbols → TextFile
-fileOf h inputs latches output gates behind =
-    record {
-      largest = h .largest;
-      inputs = map (λ fs. getD fs 0 0) (inputs .rows);
-      latches = map latchOf (latches .rows);
-      output = getD (getD (output .rows) 0 []) 0 0;
-      gates = map gateOf (gates .rows);
-      symbols = behind .symbols;
-      comment = behind .comment;
-    }
-
--- each part of reading the lines behind the header was taken
-pub record Parts (h : Header) (rest : List (List ℕ)) (f : TextFile) : Type 0 where
-  pub inputs : Body
-  pub latches : Body
-  pub output : Body
-  pub gates : Body
-  pub behind : Symbols
-  pub inputs-taken : section (inputRule (h .largest)) (h .inputs) 2 (record { rows = []; defined = []; rest = rest }) ≡ taken inputs
-  pub latches-taken : section (latchRule (h .largest)) (h .latches) (2 + h .inputs) (onward inputs) ≡ taken latches
-  pub output-taken : section (outputRule (h .largest)) 1 (2 + h .inputs + h .latches) (onward latches) ≡ taken output
-  pub gates-taken : section (gateRule (h .largest)) (h .gates) (3 + h .inputs + h .latches) (onward output) ≡ taken gates
-  pub used-taken : used (gates .defined) (2 + h .inputs) (map (λ fs. getD fs 1 0) (latches .rows) ++ map (λ fs. getD fs 0 0) (output .rows)) ≡ taken tt
-  pub symbols-taken : symbolLines h (3 + h .inputs + h .latches + h .gates) [] (gates .rest) ≡ taken behind
-  pub whole : fileOf h inputs latches output gates behind ≡ f
-
-pub parts : (h : Header) (rest : List (List ℕ)) (f : TextFile) → linesRead h rest ≡ taken f → Parts h rest f
-unfolding linesRead
-parts h rest f e =
-    let (inputs, a, e1) = bind-taken _ _ f e in
-    let (latches, b, e2) = bind-taken _ _ f e1 in
-    let (output, c, e3) = bind-taken _ _ f e2 in
-    let (gates, d, e4) = bind-taken _ _ f e3 in
-    let (u, g, e5) = then-taken _ _ f e4 in
-    let (behind, s, e6) = bind-taken _ _ f e5 in
-    record { inputs = inputs; latches = latches; output = output; gates = gates; behind = behind; inputs-taken = a; latches-taken = b; output-taken = c; gates-taken = d; used-taken = g; symbols-taken = s; whole = taken-is (fileOf h inputs latches output gates behind) f e6 }
 
 flat-rows-lines : (rows ls : List (List ℕ)) → flatMap (λ l. l) (map numberLine rows ++ ls) ≡ flatMap numberLine rows ++ flatMap (λ l. l) ls
 unfolding flatMap
@@ -185,7 +147,7 @@ module _ (h : Header) (rest : List (List ℕ)) (f : TextFile) (p : Parts h rest 
       gs = map gateRow (F .gates)
 
   late-known : All (Known (definedIn F)) (map (λ fs. getD fs 1 0) (p .latches .rows) ++ map (λ fs. getD fs 0 0) (p .output .rows))
-  late-known = subst (λ (d : List ℕ). All (Known d) (map (λ fs. getD fs 1 0) (p .latches .rows) ++ map (λ fs. getD fs 0 0) (p .output .rows))) gates-known (known-used (p .gates .defined) (2 + h .inputs) (map (λ fs. getD fs 1 0) (p .latches .rows) ++ map (λ fs. getD fs 0 0) (p .output .rows)) tt (p .used-taken))
+  late-known = subst (λ (d : List ℕ). All (Known d) (map (λ fs. getD fs 1 0) (p .latches .rows) ++ map (λ fs. getD fs 0 0) (p .output .rows))) gates-known (known-used (p .gates .defined) (2 + h .inputs) (map (λ fs. getD fs 1 0) (p .latches .rows) ++ map (λ fs. getD fs 0 0) (p .output .rows)) tt (p .late-taken))
 
   nexts-known : All (λ (l : Latch). Known (definedIn F) (l .next)) (F .latches)
   unfolding latchOf
