@@ -18,3 +18,4 @@ pub mod Agree
 pub mod Fault
 pub mod Broken
 pub mod BodyBroken
+pub mod Exact
