@@ -19,3 +19,4 @@ pub mod Fault
 pub mod Broken
 pub mod BodyBroken
 pub mod Exact
+pub mod PrintedSymbols
