@@ -20,3 +20,4 @@ pub mod Broken
 pub mod BodyBroken
 pub mod Exact
 pub mod PrintedSymbols
+pub mod Size

@@ -40,7 +40,7 @@ unfolding isNameByte
 name-bytes [] a = tt
 name-bytes (b ∷ t) a = (rw (le-leb 32 b (a .0 .0), le-leb b 126 (a .0 .1)), name-bytes t (a .1))
 
-bytes-name : (t : List ℕ) → Each isNameByte t → All (λ b. (32 ≤ b) × (b ≤ 126)) t
+pub bytes-name : (t : List ℕ) → Each isNameByte t → All (λ b. (32 ≤ b) × (b ≤ 126)) t
 unfolding isNameByte
 bytes-name [] a = tt
 bytes-name (b ∷ t) a =
