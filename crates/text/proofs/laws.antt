@@ -21,3 +21,4 @@ pub mod BodyBroken
 pub mod Exact
 pub mod PrintedSymbols
 pub mod Size
+pub mod PrintedReadsBack
