@@ -8,5 +8,6 @@ pub mod Symbol
 pub mod TextFile
 pub mod Read
 pub mod Written
+pub mod InList
 pub mod WellFormed
 pub mod Printed

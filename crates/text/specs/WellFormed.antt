@@ -8,25 +8,10 @@ use lib.ListN.{length}
 use Rattle.circuit.specs.Circuit.{Latch, Gate}
 use Rattle.circuit.specs.Limits.{Limits}
 use Rattle.circuit.specs.Literal.{variable}
+use Rattle.text.specs.InList.{All, Pairs, In}
 use Rattle.text.specs.Symbol.{Symbol, inputLetter, latchLetter, outputLetter}
 use Rattle.text.specs.TextFile.{TextFile}
 use Rattle.text.specs.Written.{textOf}
-
-module _ {A : Type 0} where
-  -- each element of a list
-  abbrev pub All : (A → Type 0) → List A → Type 0
-  All P [] = Unit {0}
-  All P (x ∷ xs) = P x × All P xs
-
-  -- each element with each that stands behind it
-  abbrev pub Pairs : (A → A → Type 0) → List A → Type 0
-  Pairs R [] = Unit {0}
-  Pairs R (x ∷ xs) = All (R x) xs × Pairs R xs
-
-  -- it stands in a list
-  abbrev pub In : List A → A → Type 0
-  In [] a = ⊥
-  In (x ∷ xs) a = (x ≡ a) ⊎ In xs a
 
 -- rule 3: every literal is at most 2M + 1; one that defines is even and at least 2
 pub record Defining (M l : ℕ) : Type 0 where

@@ -6,7 +6,7 @@ use mathlib.Core.List.{List}
 use mathlib.Core.Logic.{_↔_}
 use mathlib.Core.Path.{_≡_, refl, sym, ap, _∙_}
 use Rattle.circuit.specs.Limits.{base}
-use Rattle.circuit.specs.Outcome.{Outcome, taken}
+use Rattle.circuit.specs.Outcome.{taken}
 use Rattle.text.specs.Read.{fileRead}
 use Rattle.text.specs.TextFile.{TextFile}
 use Rattle.text.specs.WellFormed.{WellFormed}

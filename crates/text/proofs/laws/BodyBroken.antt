@@ -1,20 +1,18 @@
 -- The lines behind the header are refused exactly at the first fault in the order of document 01 ("The numbers": lines in file order; then 7 for
 -- latches and the output; then symbol lines): everything before that fault is taken. Assumes nothing.
-use Prim.Native.Nat.{ℕ, zero, suc, _+_, _<_, _≤_}
+use Prim.Native.Nat.{ℕ, suc, _+_, _≤_}
 use native.Mathlib.Omega.{arith}
-use mathlib.Core.List.{List, [], _∷_, _++_, map}
-use mathlib.Core.Logic.{_⊎_, inl, inr}
-use mathlib.Core.Path.{_≡_, refl, sym, ap, _∙_}
+use mathlib.Core.List.{List, []}
+use mathlib.Core.Logic.{inl, inr}
+use mathlib.Core.Path.{_≡_, refl}
 use lib.ListN.{getD}
-use Rattle.circuit.specs.Outcome.{Outcome, taken, refused, _>>=_, _>>_}
+use Rattle.circuit.specs.Outcome.{taken, refused}
 use Rattle.text.specs.Header.{Header}
 use Rattle.text.specs.Read.{linesRead}
 use Rattle.text.specs.Rules.{Rule, inputRule, latchRule, outputRule, gateRule}
-use Rattle.text.specs.Section.{Body, section, onward, used}
-use Rattle.text.specs.Symbol.{Symbols, symbolLines}
-use Rattle.text.specs.TextFile.{TextFile}
+use Rattle.text.specs.Section.{Body, onward}
 use Rattle.text.proofs.laws.Broken.{Broken, section-broken, broken-section, Unknown, used-unknown, unknown-used, NoSymbol, symbols-broken, broken-symbols}
-use Rattle.text.proofs.laws.Fault.{FiveToSeven, judged-fault, fault-range, input-numbers, latch-numbers, output-numbers, gate-numbers}
+use Rattle.text.proofs.laws.Fault.{Fault, FiveToSeven, judged-fault, fault-range, input-numbers, latch-numbers, output-numbers, gate-numbers}
 use Rattle.text.proofs.laws.Outcome.{taken-is-not-refused, bind-refused, then-refused}
 use Rattle.text.proofs.laws.Stages.{inputSection, latchSection, outputSection, gateSection, lateOf, lateStage, symbolStage, fileOf, behindLate, behindGates, behindOutput, behindLatches, behindInputs}
 
@@ -73,10 +71,14 @@ broken-lines h rest number place (inGates inputs latches output a b c k) = rw (a
 broken-lines h rest number place (inUse inputs latches output gates a b c d k) = rw (a, b, c, d, unknown-used _ _ _ number place k)
 broken-lines h rest number place (inSymbols inputs latches output gates a b c d u k) = rw (a, b, c, d, u, broken-symbols _ _ _ _ number place k)
 
+-- what is wrong with the line at fault
+pub broken-fault : (rule : Rule) (c n start : ℕ) (b : Body) (number place : ℕ) → rule .count ≡ suc c → (k : Broken rule n start b number place) → Fault rule (k .before .defined) (getD (k .before .rest) 0 []) number
+broken-fault rule c n start b number place e k = judged-fault rule c (k .before .defined) (getD (k .before .rest) 0 []) place number e (k .fault)
+
 -- the numbers of these faults are 4 to 8
 broken-range : (rule : Rule) (c n start : ℕ) (b : Body) (number place : ℕ) → rule .count ≡ suc c → FiveToSeven rule → Broken rule n start b number place → (4 ≤ number) × (number ≤ 8)
 broken-range rule c n start b number place e r k =
-    fault-range rule (k .before .defined) (getD (k .before .rest) 0 []) number r (judged-fault rule c (k .before .defined) (getD (k .before .rest) 0 []) place number e (k .fault))
+    fault-range rule (k .before .defined) (getD (k .before .rest) 0 []) number r (broken-fault rule c n start b number place e k)
 
 pub body-range : (h : Header) (rest : List (List ℕ)) (number place : ℕ) → BodyBroken h rest number place → (4 ≤ number) × (number ≤ 8)
 unfolding inputRule latchRule outputRule gateRule

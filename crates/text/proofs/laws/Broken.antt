@@ -1,14 +1,14 @@
 -- Where a section, the late 7 and the symbol lines refuse: at the first line with a fault, all lines before it taken (01, "The numbers": lines
 -- in file order). Assumes nothing.
-use Prim.Native.Nat.{ℕ, zero, suc, _+_, _<_, _≤_}
+use Prim.Native.Nat.{ℕ, zero, suc, _+_, _<_}
 use native.Mathlib.Omega.{arith}
 use native.Mathlib.Nat.{not-suc-le-zero, le-of-suc-le-suc}
-use mathlib.Core.Bool.{Bool, true, false, cond}
+use mathlib.Core.Bool.{Bool, true, false}
 use mathlib.Core.List.{List, [], _∷_, _++_, flatMap}
 use mathlib.Core.Option.{Option, none, some}
 use mathlib.Core.Path.{_≡_, refl, sym, ap, _∙_, subst, subst₂}
-use lib.ListN.{length, getD, drop, take}
-use Rattle.circuit.specs.Outcome.{Outcome, taken, refused, _>>=_, _>>_, refuseIf}
+use lib.ListN.{length, getD, take}
+use Rattle.circuit.specs.Outcome.{Outcome, taken, refused, refuseIf}
 use Rattle.text.specs.Header.{Header}
 use Rattle.text.specs.Line.{numbersOf}
 use Rattle.text.specs.Numbers.{badLine, notDefined, badSymbol}

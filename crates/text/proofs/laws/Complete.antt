@@ -1,32 +1,29 @@
 -- Reading is complete: whatever is written for a file as document 01 asks is taken, and as that file. Assumes nothing.
-use Prim.Native.Nat.{ℕ, zero, suc, _+_, _*_, _^_, _<_, _≤_}
+use Prim.Native.Nat.{ℕ, suc, _+_, _^_}
 use native.Mathlib.Omega.{arith}
-use mathlib.Core.Bool.{Bool, true, false, cond, not, _&&_}
-use mathlib.Core.List.{List, [], _∷_, _++_, map, flatMap, append-nil, append-assoc}
+use mathlib.Core.Bool.{true}
+use mathlib.Core.List.{List, [], _∷_, _++_, map, append-nil}
 use mathlib.Core.Logic.{_≢_}
-use mathlib.Core.Option.{Option, none, some}
-use mathlib.Core.Path.{_≡_, refl, sym, ap, ap₂, _∙_, subst}
-use lib.Dec.{eqb, leb, ltb}
-use lib.ListN.{length, getD, drop, length-map}
-use borrow.Author.Tests.{le-ltb, le-leb, eq-eqb}
+use mathlib.Core.Path.{_≡_, refl, sym, ap, _∙_}
+use lib.ListN.{length, getD, length-map}
+use borrow.Author.Tests.{le-ltb}
 use Rattle.bits.specs.Digits.{AllBelow}
 use Rattle.circuit.specs.Circuit.{Latch, Gate}
 use Rattle.circuit.specs.Limits.{Limits}
 use Rattle.circuit.specs.Literal.{variable}
-use Rattle.circuit.specs.Outcome.{Outcome, taken, refused, _>>=_, _>>_, refuseIf}
-use Rattle.text.specs.Header.{Header, word, headerNumbers, headerOf, withinLimits}
-use Rattle.text.specs.Line.{lines, numbersOf}
-use Rattle.text.specs.Numbers.{fileTooLong, headerLimit}
+use Rattle.circuit.specs.Outcome.{taken, refuseIf}
+use Rattle.text.specs.Header.{headerOf}
+use Rattle.text.specs.Line.{lines}
 use Rattle.text.specs.Read.{latchOf, gateOf, orBadHeader, linesRead, fileRead}
 use Rattle.text.specs.Rules.{Rule, inputRule, latchRule, outputRule, gateRule}
-use Rattle.text.specs.Section.{Body, section, onward, used}
+use Rattle.text.specs.Section.{section, onward, used}
 use Rattle.text.specs.Symbol.{symbolLines}
 use Rattle.text.specs.TextFile.{TextFile}
-use Rattle.text.specs.WellFormed.{WellFormed, All, Pairs, Known, Apart, ofInputsAndLatches, definedIn}
+use Rattle.text.specs.WellFormed.{WellFormed, Known, Apart, ofInputsAndLatches, definedIn}
 use Rattle.text.specs.Written.{numberLine, textOf}
 use Rattle.text.proofs.laws.Header.{headerFor, rowOf, header-numbers, Within, within-of}
-use Rattle.text.proofs.laws.Lines.{headerLine, bodyLines, behindText, lines-text}
-use Rattle.text.proofs.laws.Lists.{Fresh, all-append, all-map, pairs-left, pairs-fresh}
+use Rattle.text.proofs.laws.Lines.{bodyLines, behindText, lines-text}
+use Rattle.text.proofs.laws.Lists.{all-append, all-map, pairs-left, pairs-fresh}
 use Rattle.text.proofs.laws.Rules.{inputRow, latchRow, gateRow, inputs-fine, latches-fine, output-fine, gates-fine, news-items}
 use Rattle.text.proofs.laws.Section.{AllFine, section-fine}
 use Rattle.text.proofs.laws.Symbol.{symbol-lines-good}
@@ -43,10 +40,6 @@ section-items rule c row own xs place defined rest e d o f =
 map-back : {A : Type 0} (row : A → List ℕ) (item : List ℕ → A) → ((x : A) → item (row x) ≡ x) → (xs : List A) → map item (map row xs) ≡ xs
 map-back row item e [] = refl
 map-back row item e (x ∷ xs) = λ i. e x i ∷ map-back row item e xs i
-
-map-row : {A : Type 0} (row : A → List ℕ) (at : List ℕ → ℕ) (f : A → ℕ) → ((x : A) → at (row x) ≡ f x) → (xs : List A) → map at (map row xs) ≡ map f xs
-map-row row at f e [] = refl
-map-row row at f e (x ∷ xs) = λ i. e x i ∷ map-row row at f e xs i
 
 -- the lines behind the output, the latches and the inputs
 abbrev afterOutput : TextFile → List (List ℕ)

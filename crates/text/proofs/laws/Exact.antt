@@ -1,18 +1,18 @@
 -- Refusals are exact (01, "The numbers", 1 to 9): each number is given exactly when the table says so, in its order and at its place.
 -- Assumes nothing.
-use Prim.Native.Nat.{ℕ, zero, suc, _+_, _<_, _≤_}
+use Prim.Native.Nat.{ℕ, _<_, _≤_}
 use native.Mathlib.Omega.{arith}
-use mathlib.Core.Bool.{Bool, true, false, not, true≢false}
-use mathlib.Core.List.{List, [], _∷_}
+use mathlib.Core.Bool.{Bool, true, false, true≢false}
+use mathlib.Core.List.{List, []}
 use mathlib.Core.Logic.{_↔_}
 use mathlib.Core.Option.{Option, none, some}
-use mathlib.Core.Path.{_≡_, refl, sym, ap, _∙_, subst₂}
+use mathlib.Core.Path.{_≡_, refl, sym, _∙_, subst₂}
 use lib.Dec.{ltb}
 use lib.ListN.{length, getD, drop}
 use borrow.Author.Tests.{ltb-true, ltb-false, lt-ltb, le-ltb}
 use Rattle.circuit.specs.Circuit.{Circuit, tooMany}
 use Rattle.circuit.specs.Limits.{Limits}
-use Rattle.circuit.specs.Outcome.{Outcome, taken, refused, _>>=_, _>>_, refuseIf}
+use Rattle.circuit.specs.Outcome.{Outcome, taken, refused, refuseIf}
 use Rattle.text.specs.Header.{Header, headerNumbers, headerOf, withinLimits}
 use Rattle.text.specs.Line.{lines}
 use Rattle.text.specs.Numbers.{fileTooLong, badHeader, headerLimit, tooManyInputs}

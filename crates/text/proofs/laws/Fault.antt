@@ -1,17 +1,15 @@
 -- What is wrong with a line (01, "The numbers", 4 to 8): the number of a refusal is that of its line's fault, said without reading.
 -- Assumes nothing.
-use Prim.Native.Nat.{ℕ, zero, suc, _+_, _^_, _<_, _≤_}
+use Prim.Native.Nat.{ℕ, suc, _≤_}
 use native.Mathlib.Omega.{arith}
 use mathlib.Core.Bool.{Bool, true, false}
 use mathlib.Core.List.{List, [], _∷_}
 use mathlib.Core.Option.{Option, none, some}
 use mathlib.Core.Path.{_≡_, refl, sym, ap, _∙_, subst}
-use lib.ListN.{length}
-use Rattle.bits.specs.Digits.{AllBelow}
-use Rattle.circuit.specs.Outcome.{Outcome, taken, refused}
+use Rattle.circuit.specs.Outcome.{refused}
 use Rattle.text.specs.Header.{Header}
 use Rattle.text.specs.Line.{numbersOf}
-use Rattle.text.specs.Numbers.{badLine, badLiteral, definedTwice, notDefined}
+use Rattle.text.specs.Numbers.{badLine}
 use Rattle.text.specs.Rules.{Rule, firstOf, inputRule, latchRule, outputRule, gateRule}
 use Rattle.text.specs.Section.{judged}
 use Rattle.text.specs.Symbol.{Symbol, symbolOf}

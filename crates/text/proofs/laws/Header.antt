@@ -1,21 +1,21 @@
 -- The first line (01, "The file", rule 1): the header is taken exactly if it is the word and five numbers, and passes exactly if it is within
 -- the limits. Assumes nothing.
-use Prim.Native.Nat.{ℕ, zero, suc, _+_, _*_, _^_, _<_, _≤_}
+use Prim.Native.Nat.{ℕ, _+_, _^_, _≤_}
 use native.Mathlib.Omega.{arith}
-use mathlib.Core.Bool.{Bool, true, false, cond, _&&_}
-use mathlib.Core.List.{List, [], _∷_, _++_, map, flatMap, append-assoc}
+use mathlib.Core.Bool.{Bool, true, false, _&&_}
+use mathlib.Core.List.{List, [], _∷_, _++_, flatMap}
 use mathlib.Core.Option.{Option, none, some}
-use mathlib.Core.Path.{_≡_, refl, sym, ap, ap₂, _∙_, subst}
+use mathlib.Core.Path.{_≡_, refl, sym, ap, _∙_, subst}
 use lib.Dec.{eqb, leb}
 use lib.ListN.{length, getD, drop}
 use borrow.Author.Tests.{le-leb, leb-true, eqb-true, eq-eqb}
-use Rattle.bits.specs.Bytes.{ascii, startsWith}
+use Rattle.bits.specs.Bytes.{startsWith}
 use Rattle.bits.specs.Digits.{AllBelow}
 use Rattle.bits.proofs.laws.Bytes.{both-true, starts-with-splits}
 use Rattle.circuit.specs.Limits.{Limits}
-use Rattle.circuit.specs.Outcome.{Outcome, taken, refused}
+use Rattle.circuit.specs.Outcome.{taken}
 use Rattle.text.specs.Header.{Header, word, headerNumbers, headerOf, withinLimits}
-use Rattle.text.specs.Line.{lines, numbersOf}
+use Rattle.text.specs.Line.{lines}
 use Rattle.text.specs.Numbers.{badHeader}
 use Rattle.text.specs.Read.{orBadHeader}
 use Rattle.text.specs.TextFile.{TextFile}

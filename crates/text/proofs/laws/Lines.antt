@@ -1,20 +1,14 @@
 -- The lines of the text that is written for a file: its header, then each section line by line, then what stands behind the gates.
 -- Assumes nothing.
-use Prim.Native.Nat.{ℕ, zero, suc, _+_, _*_, _^_, _<_, _≤_}
-use native.Mathlib.Omega.{arith}
+use Prim.Native.Nat.{ℕ}
 use mathlib.Core.List.{List, [], _∷_, _++_, map, flatMap, append-assoc}
-use mathlib.Core.Option.{Option, none, some}
-use mathlib.Core.Path.{_≡_, refl, sym, ap, ap₂, _∙_, subst}
-use lib.ListN.{length, drop}
-use Rattle.bits.specs.Bytes.{ascii, startsWith}
-use Rattle.circuit.specs.Circuit.{Latch, Gate}
-use Rattle.text.specs.Header.{word, headerNumbers, headerOf}
+use mathlib.Core.Path.{_≡_, refl, ap, _∙_}
+use Rattle.text.specs.Header.{word}
 use Rattle.text.specs.Line.{lines}
-use Rattle.text.specs.Symbol.{Symbol}
 use Rattle.text.specs.TextFile.{TextFile}
 use Rattle.text.specs.Written.{numberLine, symbolLine, commentText, textOf}
 use Rattle.text.proofs.laws.Header.{rowOf, headerFor, header-is-line}
-use Rattle.text.proofs.laws.Line.{IsLine, lines-first, lines-rows, number-line-is-line}
+use Rattle.text.proofs.laws.Line.{lines-first, lines-rows, number-line-is-line}
 use Rattle.text.proofs.laws.Rules.{inputRow, latchRow, gateRow}
 
 abbrev pub headerLine : TextFile → List ℕ

@@ -1,32 +1,31 @@
 -- Printing is read back (01, "The numbers", last paragraph): what is printed of a circuit that was read is read as that circuit, and is at most
 -- 15,157 bytes long. Assumes nothing.
-use Prim.Native.Nat.{ℕ, zero, suc, _+_, _*_, _^_, _<_, _≤_}
+use Prim.Native.Nat.{ℕ, zero, suc, _<_, _≤_}
 use native.Mathlib.Omega.{arith}
 use native.Mathlib.Nat.{zero-add}
-use native.Mathlib.Decide.{decLt}
-use mathlib.Core.Bool.{Bool, true, false}
+use mathlib.Core.Bool.{false}
 use mathlib.Core.List.{List, [], _∷_, _++_, map}
-use mathlib.Core.Option.{Option, none}
+use mathlib.Core.Option.{none}
 use mathlib.Core.Path.{_≡_, refl, sym, ap, ap₂, _∙_, subst}
-use lib.ListN.{length, getD, length-map, length-append, List·getD-map}
+use lib.ListN.{length, getD, length-map, List·getD-map}
 use lib.Seq.{ext-getD}
 use Rattle.below.specs.Table.{table}
 use Rattle.below.proofs.laws.Table.{length-table, getD-table}
-use Rattle.bits.specs.Bytes.{ascii}
-use Rattle.circuit.specs.Circuit.{Circuit, Input, Latch, Gate, tooMany}
-use Rattle.circuit.specs.Limits.{Limits, base}
-use Rattle.circuit.specs.Outcome.{Outcome, taken, refused}
+use Rattle.circuit.specs.Circuit.{Circuit, Input, tooMany}
+use Rattle.circuit.specs.Limits.{base}
+use Rattle.circuit.specs.Outcome.{taken}
+use Rattle.text.specs.InList.{All}
 use Rattle.text.specs.Number.{isDigit, run, decimal}
 use Rattle.text.specs.Printed.{printedSymbols, printedFile, printed}
 use Rattle.text.specs.Read.{fileRead, circuitRead}
 use Rattle.text.specs.Symbol.{Symbol, prefix, isNameByte, isControllable}
 use Rattle.text.specs.TextFile.{TextFile, circuitOf}
-use Rattle.text.specs.WellFormed.{WellFormed, All, ofInput, SymbolLine}
+use Rattle.text.specs.WellFormed.{WellFormed, ofInput, SymbolLine}
 use Rattle.text.specs.Written.{textOf}
 use Rattle.text.proofs.laws.Complete.{complete}
 use Rattle.text.proofs.laws.Exact.{taken-circuit}
 use Rattle.text.proofs.laws.Lists.{all-append, all-weaker}
-use Rattle.text.proofs.laws.Number.{decimal-each, decimal-some, decimal-length, digit-range}
+use Rattle.text.proofs.laws.Number.{decimal-each, decimal-length, digit-range}
 use Rattle.text.proofs.laws.Outcome.{taken-is}
 use Rattle.text.proofs.laws.PrintedSymbols.{PrintedAt, printed-at, printed-apart, printed-count, printed-controllable}
 use Rattle.text.proofs.laws.Run.{Each, run-each}

@@ -1,26 +1,23 @@
 -- The symbols that are printed (01, "The numbers", last paragraph): each is a symbol line as rule 5 asks, none names a position twice, and they
 -- make the same inputs controllable. Assumes nothing.
-use Prim.Native.Nat.{ℕ, zero, suc, _+_, _^_, _<_, _≤_}
+use Prim.Native.Nat.{ℕ, zero, suc, _+_, _<_, _≤_}
 use native.Mathlib.Omega.{arith}
-use native.Mathlib.Nat.{not-suc-le-zero, add-zero, add-suc, suc-add, le-of-suc-le-suc}
-use mathlib.Core.Bool.{Bool, true, false, cond, not, _&&_, _||_}
-use mathlib.Core.List.{List, [], _∷_, _++_, map}
-use mathlib.Core.Path.{_≡_, refl, sym, ap, _∙_, subst}
-use lib.Dec.{eqb, leb}
-use lib.ListN.{length, getD, length-append}
-use borrow.Author.Tests.{eq-eqb, ne-eqb, leb-true}
+use native.Mathlib.Nat.{not-suc-le-zero, add-zero, le-of-suc-le-suc}
+use mathlib.Core.Bool.{Bool, true, false, _&&_}
+use mathlib.Core.List.{List, [], _∷_, _++_}
+use mathlib.Core.Path.{_≡_, refl}
+use lib.Dec.{eqb}
+use lib.ListN.{length, getD}
+use borrow.Author.Tests.{eq-eqb, ne-eqb}
 use Rattle.below.specs.Among.{among}
-use Rattle.bits.specs.Bytes.{ascii, startsWith}
-use Rattle.bits.proofs.laws.Bytes.{both-true, starts-with-append}
+use Rattle.bits.proofs.laws.Bytes.{starts-with-append}
 use Rattle.circuit.specs.Circuit.{Input}
-use Rattle.text.specs.Number.{isDigit, decimal}
+use Rattle.text.specs.InList.{All, Pairs}
+use Rattle.text.specs.Number.{decimal}
 use Rattle.text.specs.Printed.{printedSymbols}
 use Rattle.text.specs.Symbol.{Symbol, inputLetter, prefix, names, isControllableName, isControllable}
-use Rattle.text.specs.TextFile.{TextFile}
-use Rattle.text.specs.WellFormed.{All, Pairs, Placed, ofInput, SymbolLine, Apart}
-use Rattle.text.proofs.laws.Lists.{all-append, all-weaker, none-among}
-use Rattle.text.proofs.laws.Number.{decimal-each, decimal-some, decimal-length, digit-range}
-use Rattle.text.proofs.laws.Run.{Each}
+use Rattle.text.specs.WellFormed.{Apart}
+use Rattle.text.proofs.laws.Lists.{all-weaker, none-among}
 
 -- a printed symbol with its position from p up to n
 pub record PrintedAt (p n : ℕ) (s : Symbol) : Type 0 where

@@ -1,27 +1,27 @@
 -- What the rules of the lines ask (01, "The file", rules 3 and 4), in the words of WellFormed: no fault is found in a line of a section exactly
 -- if its literals are as the rules say. Assumes nothing.
-use Prim.Native.Nat.{ℕ, zero, suc, _+_, _*_, _%_, _^_, _<_, _≤_}
+use Prim.Native.Nat.{ℕ, _+_, _*_, _%_, _^_, _<_, _≤_}
 use native.Mathlib.Omega.{arith}
 use mathlib.Core.Bool.{Bool, true, false, cond, not, _&&_, _||_, true≢false}
 use mathlib.Core.List.{List, [], _∷_, _++_, map}
-use mathlib.Core.Logic.{_⊎_, inl, inr, _≢_}
-use mathlib.Core.Option.{Option, none, some}
-use mathlib.Core.Path.{_≡_, refl, sym, ap, ap₂, _∙_, subst}
+use mathlib.Core.Logic.{inl, inr, _≢_}
+use mathlib.Core.Option.{none}
+use mathlib.Core.Path.{_≡_, refl, sym, ap, ap₂}
 use lib.Dec.{eqb, leb, ltb}
 use lib.ListN.{length, getD}
-use borrow.Author.Tests.{ltb-true, ltb-false, lt-ltb, le-ltb, le-leb, leb-true, eqb-true, eq-eqb, not-true, not-false}
+use borrow.Author.Tests.{ltb-true, ltb-false, lt-ltb, le-ltb, le-leb, leb-true, eqb-true, eq-eqb, not-false}
 use Rattle.below.specs.Among.{member}
-use Rattle.bits.specs.Digits.{AllBelow}
 use Rattle.bits.proofs.laws.Bytes.{both-true}
 use Rattle.circuit.specs.Circuit.{Latch, Gate}
 use Rattle.circuit.specs.Literal.{variable, constant, mayDefine, tooLarge}
+use Rattle.text.specs.InList.{All}
 use Rattle.text.specs.Numbers.{badLiteral, definedTwice, notDefined}
 use Rattle.text.specs.Read.{latchOf, gateOf}
 use Rattle.text.specs.Rules.{firstOf, badOwn, isDefined, unknown, Rule, inputRule, latchRule, outputRule, gateRule}
-use Rattle.text.specs.WellFormed.{All, In, Defining, LatchLine, GateLine, Known, Operands}
+use Rattle.text.specs.WellFormed.{Defining, LatchLine, GateLine, Known, Operands}
 use Rattle.text.proofs.laws.Line.{none-is-not-some}
 use Rattle.text.proofs.laws.Lists.{neither, neither-of, Fresh, member-in, in-member, no-member, no-member-of}
-use Rattle.text.proofs.laws.Section.{news, Fine, AllFine}
+use Rattle.text.proofs.laws.Section.{news, AllFine}
 
 -- the tests on one literal
 pub not-too-large : (M l : ℕ) → tooLarge M l ≡ false → l ≤ 2 * M + 1

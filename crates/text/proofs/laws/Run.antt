@@ -1,9 +1,9 @@
 -- The bytes that a text begins with and that pass a test: each of them passes, the next doesn't, and they come back from what they are put
 -- in front of. Assumes nothing.
-use Prim.Native.Nat.{ℕ, zero, suc}
-use mathlib.Core.Bool.{Bool, true, false, cond}
+use Prim.Native.Nat.{ℕ}
+use mathlib.Core.Bool.{Bool, true, false}
 use mathlib.Core.List.{List, [], _∷_, _++_}
-use mathlib.Core.Path.{_≡_, refl, sym, ap, _∙_}
+use mathlib.Core.Path.{_≡_, refl, ap}
 use lib.ListN.{length, getD, drop}
 use Rattle.text.specs.Number.{run}
 

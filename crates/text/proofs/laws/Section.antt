@@ -1,14 +1,14 @@
 -- The lines of a section: taken exactly if each is a line of numbers in which its rule finds no fault. Assumes nothing.
-use Prim.Native.Nat.{ℕ, zero, suc, _+_, _^_, _<_, _≤_}
+use Prim.Native.Nat.{ℕ, zero, suc, _^_}
 use native.Mathlib.Omega.{arith}
-use mathlib.Core.Bool.{Bool, true, false, cond}
+use mathlib.Core.Bool.{cond}
 use mathlib.Core.List.{List, [], _∷_, _++_, map, append-nil, append-assoc}
 use mathlib.Core.Option.{Option, none, some}
-use mathlib.Core.Path.{_≡_, refl, sym, ap, ap₂, _∙_, subst}
+use mathlib.Core.Path.{_≡_, refl, sym, ap, _∙_, subst}
 use lib.ListN.{length, getD, drop}
 use Rattle.bits.specs.Digits.{AllBelow}
 use Rattle.circuit.specs.Literal.{variable}
-use Rattle.circuit.specs.Outcome.{Outcome, taken, refused, _>>=_, _>>_, refuseIf}
+use Rattle.circuit.specs.Outcome.{taken}
 use Rattle.text.specs.Line.{numbersOf}
 use Rattle.text.specs.Numbers.{badLine}
 use Rattle.text.specs.Rules.{Rule}

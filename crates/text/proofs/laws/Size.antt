@@ -1,20 +1,20 @@
 -- How long the text of a file can be that names its inputs at most (01, "Printing"): a line of n numbers of at most four digits has at most 5n
 -- bytes. Assumes nothing.
-use Prim.Native.Nat.{ℕ, zero, suc, _+_, _*_, _^_, _<_, _≤_}
+use Prim.Native.Nat.{ℕ, suc, _+_, _*_, _^_, _≤_}
 use native.Mathlib.Omega.{arith}
 use native.Mathlib.Nat.{mul-suc}
 use mathlib.Core.List.{List, [], _∷_, _++_, flatMap}
-use mathlib.Core.Option.{Option, none}
-use mathlib.Core.Path.{_≡_, refl, sym, ap, _∙_, subst}
+use mathlib.Core.Option.{none}
+use mathlib.Core.Path.{_≡_}
 use lib.ListN.{length, length-append}
 use Rattle.bits.specs.Digits.{AllBelow}
-use Rattle.circuit.specs.Circuit.{Latch, Gate}
 use Rattle.circuit.specs.Limits.{base}
 use Rattle.text.specs.Header.{word}
+use Rattle.text.specs.InList.{All}
 use Rattle.text.specs.Number.{decimal}
 use Rattle.text.specs.Symbol.{Symbol, prefix}
 use Rattle.text.specs.TextFile.{TextFile}
-use Rattle.text.specs.WellFormed.{All, Defining, LatchLine, GateLine}
+use Rattle.text.specs.WellFormed.{Defining, LatchLine, GateLine}
 use Rattle.text.specs.Written.{numberLine, symbolLine, commentText, textOf}
 use Rattle.text.proofs.laws.Header.{headerFor, rowOf}
 use Rattle.text.proofs.laws.Lists.{all-weaker}

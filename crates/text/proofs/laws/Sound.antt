@@ -1,37 +1,34 @@
 -- Reading is sound: a file that is taken is, byte for byte, the text that is written for what was read, and that is as document 01 asks.
 -- Assumes nothing.
-use Prim.Native.Nat.{ℕ, zero, suc, _+_, _*_, _^_, _<_, _≤_}
+use Prim.Native.Nat.{ℕ, _+_, _*_, _^_, _<_, _≤_}
 use native.Mathlib.Omega.{arith}
-use mathlib.Core.Bool.{Bool, true, false, cond, not, _&&_}
 use mathlib.Core.List.{List, [], _∷_, _++_, map, flatMap, append-nil, append-assoc}
 use mathlib.Core.Logic.{_≢_}
-use mathlib.Core.Option.{Option, none, some}
 use mathlib.Core.Path.{_≡_, refl, sym, ap, ap₂, _∙_, subst}
-use lib.Dec.{eqb, leb, ltb}
 use lib.ListN.{length, getD, drop, length-map}
-use borrow.Author.Tests.{ltb-false, leb-true, eqb-true, not-false}
+use borrow.Author.Tests.{ltb-false, not-false}
 use Rattle.circuit.specs.Circuit.{Latch, Gate}
 use Rattle.circuit.specs.Limits.{Limits}
 use Rattle.circuit.specs.Literal.{variable}
-use Rattle.circuit.specs.Outcome.{Outcome, taken, refused, _>>=_, _>>_, refuseIf}
-use Rattle.text.specs.Header.{Header, word, headerNumbers, headerOf, withinLimits}
-use Rattle.text.specs.Line.{lines, numbersOf}
+use Rattle.circuit.specs.Outcome.{taken}
+use Rattle.text.specs.Header.{Header, word}
+use Rattle.text.specs.InList.{All, Pairs}
+use Rattle.text.specs.Line.{lines}
 use Rattle.text.specs.Numbers.{fileTooLong, headerLimit}
-use Rattle.text.specs.Read.{latchOf, gateOf, orBadHeader, linesRead, fileRead}
-use Rattle.text.specs.Rules.{Rule, inputRule, latchRule, outputRule, gateRule}
-use Rattle.text.specs.Section.{Body, section, onward, used}
-use Rattle.text.specs.Symbol.{Symbols, symbolLines}
+use Rattle.text.specs.Read.{latchOf, gateOf, fileRead}
+use Rattle.text.specs.Rules.{inputRule, latchRule, outputRule, gateRule}
+use Rattle.text.specs.Section.{onward}
 use Rattle.text.specs.TextFile.{TextFile}
-use Rattle.text.specs.WellFormed.{WellFormed, All, Pairs, Defining, LatchLine, GateLine, Known, Operands, Apart, SymbolLine, ofInputsAndLatches, definedIn}
+use Rattle.text.specs.WellFormed.{WellFormed, Defining, LatchLine, GateLine, Known, Operands, Apart, SymbolLine, ofInputsAndLatches, definedIn}
 use Rattle.text.specs.Written.{numberLine, symbolLine, commentText, textOf}
 use Rattle.text.proofs.laws.Header.{headerFor, rowOf, Headed, headed-lines, header-taken, Within, within-is}
 use Rattle.text.proofs.laws.Line.{flat-lines}
 use Rattle.text.proofs.laws.Lines.{behindText, text-by-rows}
 use Rattle.text.proofs.laws.Lists.{Fresh, all-left, all-right, all-map, map-all, fresh-pairs}
-use Rattle.text.proofs.laws.Outcome.{bind-taken, then-taken, refuse-none, taken-is}
+use Rattle.text.proofs.laws.Outcome.{bind-taken, then-taken, refuse-none}
 use Rattle.text.proofs.laws.Rules.{inputRow, latchRow, gateRow, LinesAre, inputs-are, latches-are, output-is, gates-are, news-items}
 use Rattle.text.proofs.laws.Section.{news, AllFine, Whole, section-whole}
-use Rattle.text.proofs.laws.Stages.{lateOf, fileOf, Parts, parts}
+use Rattle.text.proofs.laws.Stages.{fileOf, Parts, parts}
 use Rattle.text.proofs.laws.Symbol.{AllGood, SymbolsAre, symbol-lines-are}
 use Rattle.text.proofs.laws.SymbolRule.{good-symbols}
 use Rattle.text.proofs.laws.Used.{known-used}

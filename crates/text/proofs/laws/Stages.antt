@@ -4,7 +4,7 @@ use Prim.Native.Nat.{ℕ, _+_}
 use mathlib.Core.List.{List, [], _++_, map}
 use mathlib.Core.Path.{_≡_, refl}
 use lib.ListN.{getD}
-use Rattle.circuit.specs.Outcome.{Outcome, taken, refused, _>>=_, _>>_}
+use Rattle.circuit.specs.Outcome.{Outcome, taken, _>>=_, _>>_}
 use Rattle.text.specs.Header.{Header}
 use Rattle.text.specs.Read.{latchOf, gateOf, linesRead}
 use Rattle.text.specs.Rules.{inputRule, latchRule, outputRule, gateRule}
@@ -64,10 +64,6 @@ behindLatches h inputs latches = outputSection h latches >>= behindOutput h inpu
 
 abbrev pub behindInputs : Header → Body → Outcome TextFile
 behindInputs h inputs = latchSection h inputs >>= behindLatches h inputs
-
-pub by-stages : (h : Header) (rest : List (List ℕ)) → linesRead h rest ≡ (inputSection h rest >>= behindInputs h)
-unfolding linesRead
-by-stages h rest = refl
 
 -- each stage was taken
 pub record Parts (h : Header) (rest : List (List ℕ)) (f : TextFile) : Type 0 where

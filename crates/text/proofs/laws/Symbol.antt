@@ -1,18 +1,18 @@
 -- Symbol lines and the comment, written and read back (01, "The file", rules 5 and 6). Assumes nothing.
-use Prim.Native.Nat.{ℕ, zero, suc, _+_, _^_, _<_, _≤_}
+use Prim.Native.Nat.{ℕ, suc, _^_, _<_, _≤_}
 use native.Mathlib.Omega.{arith}
-use mathlib.Core.Bool.{Bool, true, false, cond, not, _&&_}
-use mathlib.Core.List.{List, [], _∷_, _++_, map, flatMap, append-nil, append-assoc}
+use mathlib.Core.Bool.{Bool, true, false, not, _&&_}
+use mathlib.Core.List.{List, [], _∷_, _++_, flatMap, append-nil, append-assoc}
 use mathlib.Core.Option.{Option, none, some}
-use mathlib.Core.Path.{_≡_, refl, sym, ap, ap₂, _∙_, subst}
+use mathlib.Core.Path.{_≡_, refl, sym, ap, ap₂, _∙_}
 use lib.Dec.{eqb, leb, ltb}
 use lib.ListN.{length, getD, drop, length-append}
 use lib.Seq.{drop-append-seam}
-use borrow.Author.Tests.{eqb-true, eq-eqb, ne-eqb, leb-true, ltb-true, lt-ltb, not-true}
+use borrow.Author.Tests.{eqb-true, ne-eqb, leb-true, ltb-true, lt-ltb, not-true}
 use Rattle.below.specs.Among.{among}
 use Rattle.bits.specs.Bytes.{ascii, sameBytes}
 use Rattle.bits.proofs.laws.Bytes.{both-true, same-bytes-equal, same-bytes-refl}
-use Rattle.circuit.specs.Outcome.{Outcome, taken, refused, _>>=_}
+use Rattle.circuit.specs.Outcome.{taken, _>>=_}
 use Rattle.text.specs.Header.{Header}
 use Rattle.text.specs.Line.{before, lines}
 use Rattle.text.specs.Number.{isDigit, run, Num, is, bad, number, decimal}
@@ -21,7 +21,7 @@ use Rattle.text.specs.Symbol.{Symbol, positions, isNameByte, isName, nam
 use Rattle.text.specs.Written.{symbolLine, commentText}
 use Rattle.text.proofs.laws.Line.{inside, IsLine, lines-first, flat-lines, decimal-inside, starts, none-is-not-some}
 use Rattle.text.proofs.laws.Number.{number-decimal, number-is, NumberIs, decimal-some}
-use Rattle.text.proofs.laws.Outcome.{refused-is-not-taken, bind-taken}
+use Rattle.text.proofs.laws.Outcome.{refused-is-not-taken}
 use Rattle.text.proofs.laws.Run.{Each, each-append, each-weaker, run-each, run-splits, run-append}
 
 -- a symbol that may stand behind those seen

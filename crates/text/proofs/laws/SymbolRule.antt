@@ -1,23 +1,23 @@
 -- What the symbol lines ask (01, "The file", rule 5), in the words of WellFormed: the symbols of a list are taken exactly if each has a letter,
 -- a position below its count and a name, and none is named twice. Assumes nothing.
-use Prim.Native.Nat.{ℕ, zero, suc, _+_, _*_, _^_, _<_, _≤_}
+use Prim.Native.Nat.{ℕ, _+_, _*_, _^_, _<_, _≤_}
 use native.Mathlib.Omega.{arith}
 use native.Mathlib.Nat.{not-suc-le-zero}
-use mathlib.Core.Bool.{Bool, true, false, cond, not, _&&_}
-use mathlib.Core.List.{List, [], _∷_, _++_, map}
-use mathlib.Core.Path.{_≡_, refl, sym, ap, _∙_, subst}
-use lib.Dec.{eqb, leb, ltb}
+use mathlib.Core.Bool.{Bool, true, false, _&&_}
+use mathlib.Core.List.{List, [], _∷_, _++_}
+use mathlib.Core.Path.{_≡_, refl}
+use lib.Dec.{eqb, leb}
 use lib.ListN.{length}
 use borrow.Author.Tests.{eqb-true, eqb-false, eq-eqb, ne-eqb, le-leb, leb-true}
-use Rattle.below.specs.Among.{among}
 use Rattle.bits.proofs.laws.Bytes.{both-true}
+use Rattle.text.specs.InList.{All}
 use Rattle.text.specs.Symbol.{Symbol, inputLetter, latchLetter, outputLetter, positions, isNameByte, isName, names}
 use Rattle.text.specs.TextFile.{TextFile}
-use Rattle.text.specs.WellFormed.{All, Pairs, Placed, ofInput, ofLatch, ofOutput, SymbolLine, Apart}
+use Rattle.text.specs.WellFormed.{Placed, ofInput, ofLatch, ofOutput, SymbolLine, Apart}
 use Rattle.text.proofs.laws.Header.{headerFor}
 use Rattle.text.proofs.laws.Lists.{all-weaker, Fresh, among-none, none-among}
 use Rattle.text.proofs.laws.Run.{Each}
-use Rattle.text.proofs.laws.Symbol.{Good, AllGood}
+use Rattle.text.proofs.laws.Symbol.{AllGood}
 
 placed-within : (f : TextFile) (s : Symbol) → Placed f s → s .position < positions (headerFor f) (s .letter)
 unfolding positions

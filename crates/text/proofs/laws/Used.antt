@@ -3,11 +3,12 @@
 use Prim.Native.Nat.{ℕ, suc}
 use mathlib.Core.List.{List, [], _∷_}
 use mathlib.Core.Path.{_≡_, refl}
-use Rattle.circuit.specs.Outcome.{Outcome, taken, refused, _>>=_, _>>_, refuseIf}
+use Rattle.circuit.specs.Outcome.{taken, refuseIf}
+use Rattle.text.specs.InList.{All}
 use Rattle.text.specs.Numbers.{notDefined}
 use Rattle.text.specs.Rules.{unknown}
 use Rattle.text.specs.Section.{used}
-use Rattle.text.specs.WellFormed.{All, Known}
+use Rattle.text.specs.WellFormed.{Known}
 use Rattle.text.proofs.laws.Outcome.{then-taken, refuse-none}
 use Rattle.text.proofs.laws.Rules.{known-of, known-is}
 
