@@ -18,6 +18,7 @@ pub mod Agree
 pub mod Fault
 pub mod Broken
 pub mod BodyBroken
+pub mod FaultLine
 pub mod Exact
 pub mod PrintedSymbols
 pub mod Size

@@ -30,10 +30,10 @@ late-broken h rest number place inputs latches output gates a b c d e =
     elim (then-refused (lateStage h latches output gates) (behindLate h inputs latches output gates) number place e) [
       | inl r ↦ inUse inputs latches output gates a b c d (used-unknown (gates .defined) (2 + h .inputs) (lateOf latches output) number place r)
       | inr u ↦
-        elim (bind-refused (symbolStage h gates) (λ behind. taken (fileOf h inputs latches output gates behind)) number place (u .2)) [
-          | inl r ↦ inSymbols inputs latches output gates a b c d (u .1) (symbols-broken h (3 + h .inputs + h .latches + h .gates) [] (gates .rest) number place r)
-          | inr s ↦ absurd (taken-is-not-refused number place (fileOf h inputs latches output gates (s .0)) (s .2))
-        ]
+          elim (bind-refused (symbolStage h gates) (λ behind. taken (fileOf h inputs latches output gates behind)) number place (u .2)) [
+            | inl r ↦ inSymbols inputs latches output gates a b c d (u .1) (symbols-broken h (3 + h .inputs + h .latches + h .gates) [] (gates .rest) number place r)
+            | inr s ↦ absurd (taken-is-not-refused number place (fileOf h inputs latches output gates (s .0)) (s .2))
+          ]
     ]
 
 output-broken : (h : Header) (rest : List (List ℕ)) (number place : ℕ) (inputs latches : Body) → inputSection h rest ≡ taken inputs → latchSection h inputs ≡ taken latches → behindLatches h inputs latches ≡ refused number place → BodyBroken h rest number place
@@ -41,10 +41,10 @@ output-broken h rest number place inputs latches a b e =
     elim (bind-refused (outputSection h latches) (behindOutput h inputs latches) number place e) [
       | inl r ↦ inOutput inputs latches a b (section-broken _ _ _ _ number place r)
       | inr c ↦
-        elim (bind-refused (gateSection h (c .0)) (behindGates h inputs latches (c .0)) number place (c .2)) [
-          | inl r ↦ inGates inputs latches (c .0) a b (c .1) (section-broken _ _ _ _ number place r)
-          | inr d ↦ late-broken h rest number place inputs latches (c .0) (d .0) a b (c .1) (d .1) (d .2)
-        ]
+          elim (bind-refused (gateSection h (c .0)) (behindGates h inputs latches (c .0)) number place (c .2)) [
+            | inl r ↦ inGates inputs latches (c .0) a b (c .1) (section-broken _ _ _ _ number place r)
+            | inr d ↦ late-broken h rest number place inputs latches (c .0) (d .0) a b (c .1) (d .1) (d .2)
+          ]
     ]
 
 latches-broken : (h : Header) (rest : List (List ℕ)) (number place : ℕ) (inputs : Body) → inputSection h rest ≡ taken inputs → behindInputs h inputs ≡ refused number place → BodyBroken h rest number place

@@ -94,20 +94,22 @@ gateRow g = g .own ∷ g .left ∷ g .right ∷ []
 pub inputs-fine : (M : ℕ) (defined xs : List ℕ) → 2 * M + 1 < 10 ^ 7 → All (Defining M) xs → Fresh (λ v w. v ≢ w) defined (map variable xs) → AllFine (inputRule M) defined (map inputRow xs)
 unfolding inputRule
 inputs-fine M defined [] s a f = tt
-inputs-fine M defined (x ∷ xs) s a f =
-    (record { count = refl; below = (omega (arith, a .0 .most, s), tt); fine = no-fault-of (badOwn M x) (isDefined defined x) false (good-own-of M x (a .0)) (fresh-own-of defined x (f .0)) refl },
-    inputs-fine M (defined ++ (variable x ∷ [])) xs s (a .1) (f .1))
+inputs-fine M defined (x ∷ xs) s a f = (
+  record { count = refl; below = (omega (arith, a .0 .most, s), tt); fine = no-fault-of (badOwn M x) (isDefined defined x) false (good-own-of M x (a .0)) (fresh-own-of defined x (f .0)) refl },
+  inputs-fine M (defined ++ (variable x ∷ [])) xs s (a .1) (f .1),
+)
 
 pub latches-fine : (M : ℕ) (defined : List ℕ) (ls : List Latch) → 2 * M + 1 < 10 ^ 7 → All (LatchLine M) ls → Fresh (λ v w. v ≢ w) defined (map (λ (l : Latch). variable (l .own)) ls) → AllFine (latchRule M) defined (map latchRow ls)
 unfolding latchRule
 latches-fine M defined [] s a f = tt
-latches-fine M defined (l ∷ ls) s a f =
-    (record {
-      count = refl;
-      below = (omega (arith, a .0 .own .most, s), (omega (arith, a .0 .next, s), tt));
-      fine = no-fault-of (badOwn M (l .own) || tooLarge M (l .next)) (isDefined defined (l .own)) false (neither-of (badOwn M (l .own)) (tooLarge M (l .next)) (good-own-of M (l .own) (a .0 .own)) (not-too-large-of M (l .next) (a .0 .next))) (fresh-own-of defined (l .own) (f .0)) refl;
-    },
-    latches-fine M (defined ++ (variable (l .own) ∷ [])) ls s (a .1) (f .1))
+latches-fine M defined (l ∷ ls) s a f = (
+  record {
+    count = refl;
+    below = (omega (arith, a .0 .own .most, s), (omega (arith, a .0 .next, s), tt));
+    fine = no-fault-of (badOwn M (l .own) || tooLarge M (l .next)) (isDefined defined (l .own)) false (neither-of (badOwn M (l .own)) (tooLarge M (l .next)) (good-own-of M (l .own) (a .0 .own)) (not-too-large-of M (l .next) (a .0 .next))) (fresh-own-of defined (l .own) (f .0)) refl;
+  },
+  latches-fine M (defined ++ (variable (l .own) ∷ [])) ls s (a .1) (f .1),
+)
 
 pub output-fine : (M : ℕ) (defined : List ℕ) (l : ℕ) → 2 * M + 1 < 10 ^ 7 → l ≤ 2 * M + 1 → AllFine (outputRule M) defined ((l ∷ []) ∷ [])
 unfolding outputRule
@@ -117,13 +119,14 @@ output-fine M defined l s h =
 pub gates-fine : (M : ℕ) (defined : List ℕ) (gs : List Gate) → 2 * M + 1 < 10 ^ 7 → All (GateLine M) gs → Fresh (λ v w. v ≢ w) defined (map (λ (g : Gate). variable (g .own)) gs) → Operands defined gs → AllFine (gateRule M) defined (map gateRow gs)
 unfolding gateRule
 gates-fine M defined [] s a f o = tt
-gates-fine M defined (g ∷ gs) s a f o =
-    (record {
-      count = refl;
-      below = (omega (arith, a .0 .own .most, s), (omega (arith, a .0 .left, s), (omega (arith, a .0 .right, s), tt)));
-      fine = no-fault-of five (isDefined defined (g .own)) seven large (fresh-own-of defined (g .own) (f .0)) (neither-of (unknown defined (g .left)) (unknown defined (g .right)) (known-is defined (g .left) (o .0)) (known-is defined (g .right) (o .1)));
-    },
-    gates-fine M (defined ++ (variable (g .own) ∷ [])) gs s (a .1) (f .1) (o .2))
+gates-fine M defined (g ∷ gs) s a f o = (
+  record {
+    count = refl;
+    below = (omega (arith, a .0 .own .most, s), (omega (arith, a .0 .left, s), (omega (arith, a .0 .right, s), tt)));
+    fine = no-fault-of five (isDefined defined (g .own)) seven large (fresh-own-of defined (g .own) (f .0)) (neither-of (unknown defined (g .left)) (unknown defined (g .right)) (known-is defined (g .left) (o .0)) (known-is defined (g .right) (o .1)));
+  },
+  gates-fine M (defined ++ (variable (g .own) ∷ [])) gs s (a .1) (f .1) (o .2),
+)
   where
     five : Bool
     five = badOwn M (g .own) || tooLarge M (g .left) || tooLarge M (g .right)
@@ -188,9 +191,10 @@ gates-are M defined ((x ∷ y ∷ z ∷ []) ∷ rows) f =
     let (front, right) = neither (badOwn M x || tooLarge M y) (tooLarge M z) five in
     let (own, left) = neither (badOwn M x) (tooLarge M y) front in
     let (left-known, right-known) = neither (unknown defined y) (unknown defined z) seven in
-    let (rest, operands) = gates-are M (defined ++ (variable x ∷ [])) rows (f .1) in
-    (one-item-more gateRow (λ (g : Gate). g .own) (GateLine M) defined rows (map gateOf rows) (record { own = x; left = y; right = z }) (record { own = good-own M x own; left = not-too-large M y left; right = not-too-large M z right }) (fresh-own defined x six) rest,
-    (known-of defined y left-known, known-of defined z right-known, operands))
+    let (rest, operands) = gates-are M (defined ++ (variable x ∷ [])) rows (f .1) in (
+      one-item-more gateRow (λ (g : Gate). g .own) (GateLine M) defined rows (map gateOf rows) (record { own = x; left = y; right = z }) (record { own = good-own M x own; left = not-too-large M y left; right = not-too-large M z right }) (fresh-own defined x six) rest,
+      (known-of defined y left-known, known-of defined z right-known, operands),
+    )
 
 -- what lines of items define
 pub news-items : {A : Type 0} (rule : Rule) (row : A → List ℕ) (own : A → ℕ) → rule .defines ≡ true → ((x : A) → getD (row x) 0 0 ≡ own x) → (xs : List A) → news rule (map row xs) ≡ map (λ x. variable (own x)) xs

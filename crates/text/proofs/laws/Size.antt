@@ -36,18 +36,19 @@ flat-length f b (x ∷ xs) a = omega (arith, length-append (f x) (flatMap f xs),
 header-length : (f : TextFile) → f .largest ≤ base .variable → length (f .inputs) ≤ base .inputs → length (f .latches) ≤ base .latches → length (f .gates) ≤ base .variable → length (numberLine (rowOf (headerFor f))) ≤ 18
 unfolding numberLine
 header-length f m i l a =
-    omega
-    (arith,
-    length-append (decimal (f .largest)) (32 ∷ (decimal (length (f .inputs)) ++ (32 ∷ (decimal (length (f .latches)) ++ (32 ∷ (decimal 1 ++ (32 ∷ (decimal (length (f .gates)) ++ (10 ∷ [])))))))))
-    , length-append (decimal (length (f .inputs))) (32 ∷ (decimal (length (f .latches)) ++ (32 ∷ (decimal 1 ++ (32 ∷ (decimal (length (f .gates)) ++ (10 ∷ [])))))))
-    , length-append (decimal (length (f .latches))) (32 ∷ (decimal 1 ++ (32 ∷ (decimal (length (f .gates)) ++ (10 ∷ [])))))
-    , length-append (decimal 1) (32 ∷ (decimal (length (f .gates)) ++ (10 ∷ [])))
-    , length-append (decimal (length (f .gates))) (10 ∷ [])
-    , decimal-length (f .largest) 3 (omega arith)
-    , decimal-length (length (f .inputs)) 1 (omega arith)
-    , decimal-length (length (f .latches)) 1 (omega arith)
-    , decimal-length 1 0 (omega arith)
-    , decimal-length (length (f .gates)) 3 (omega arith))
+    omega (
+      arith,
+      length-append (decimal (f .largest)) (32 ∷ (decimal (length (f .inputs)) ++ (32 ∷ (decimal (length (f .latches)) ++ (32 ∷ (decimal 1 ++ (32 ∷ (decimal (length (f .gates)) ++ (10 ∷ []))))))))),
+      length-append (decimal (length (f .inputs))) (32 ∷ (decimal (length (f .latches)) ++ (32 ∷ (decimal 1 ++ (32 ∷ (decimal (length (f .gates)) ++ (10 ∷ []))))))),
+      length-append (decimal (length (f .latches))) (32 ∷ (decimal 1 ++ (32 ∷ (decimal (length (f .gates)) ++ (10 ∷ []))))),
+      length-append (decimal 1) (32 ∷ (decimal (length (f .gates)) ++ (10 ∷ []))),
+      length-append (decimal (length (f .gates))) (10 ∷ []),
+      decimal-length (f .largest) 3 (omega arith),
+      decimal-length (length (f .inputs)) 1 (omega arith),
+      decimal-length (length (f .latches)) 1 (omega arith),
+      decimal-length 1 0 (omega arith),
+      decimal-length (length (f .gates)) 3 (omega arith),
+    )
 
 -- a printed symbol: a letter, a position twice, a space, the prefix and byte 10
 symbol-length : (p n : ℕ) (s : Symbol) → n ≤ base .inputs → PrintedAt p n s → length (symbolLine s) ≤ 20
@@ -78,16 +79,20 @@ pub text-length : (f : TextFile) → Printable f → length (textOf f) ≤ 15157
 unfolding textOf commentText
 text-length f p =
     rw (p .comment)
-    (omega
-    (arith,
-    lengths (word ++ numberLine (rowOf (headerFor f))) is ls (numberLine (f .output ∷ [])) gs ss []
-    , header-length f (p .largest) (p .inputCount) (p .latchCount) (omega (arith, p .room, p .largest))
-    , flat-length (λ x. numberLine (inputRow x)) 5 (f .inputs) (all-weaker (Defining (f .largest)) (λ x. length (numberLine (inputRow x)) ≤ 5) (λ x d. number-line-length x [] (omega (arith, d .most, p .largest), tt)) (f .inputs) (p .inputs))
-    , flat-length (λ x. numberLine (latchRow x)) 10 (f .latches) (all-weaker (LatchLine (f .largest)) (λ x. length (numberLine (latchRow x)) ≤ 10) (λ x d. number-line-length (x .own) (x .next ∷ []) (omega (arith, d .own .most, p .largest), (omega (arith, d .next, p .largest), tt))) (f .latches) (p .latches))
-    , number-line-length (f .output) [] (omega (arith, p .output, p .largest), tt)
-    , flat-length (λ x. numberLine (gateRow x)) 15 (f .gates) (all-weaker (GateLine (f .largest)) (λ x. length (numberLine (gateRow x)) ≤ 15) (λ x d. number-line-length (x .own) (x .left ∷ x .right ∷ []) (omega (arith, d .own .most, p .largest), (omega (arith, d .left, p .largest), (omega (arith, d .right, p .largest), tt)))) (f .gates) (p .gates))
-    , flat-length symbolLine 20 (f .symbols) (all-weaker (PrintedAt 0 (length (f .inputs))) (λ s. length (symbolLine s) ≤ 20) (λ s a. symbol-length 0 (length (f .inputs)) s (p .inputCount) a) (f .symbols) (p .symbols))
-    , p .room, p .largest, p .inputCount, p .symbolCount))
+    (omega (
+      arith,
+      lengths (word ++ numberLine (rowOf (headerFor f))) is ls (numberLine (f .output ∷ [])) gs ss [],
+      header-length f (p .largest) (p .inputCount) (p .latchCount) (omega (arith, p .room, p .largest)),
+      flat-length (λ x. numberLine (inputRow x)) 5 (f .inputs) (all-weaker (Defining (f .largest)) (λ x. length (numberLine (inputRow x)) ≤ 5) (λ x d. number-line-length x [] (omega (arith, d .most, p .largest), tt)) (f .inputs) (p .inputs)),
+      flat-length (λ x. numberLine (latchRow x)) 10 (f .latches) (all-weaker (LatchLine (f .largest)) (λ x. length (numberLine (latchRow x)) ≤ 10) (λ x d. number-line-length (x .own) (x .next ∷ []) (omega (arith, d .own .most, p .largest), (omega (arith, d .next, p .largest), tt))) (f .latches) (p .latches)),
+      number-line-length (f .output) [] (omega (arith, p .output, p .largest), tt),
+      flat-length (λ x. numberLine (gateRow x)) 15 (f .gates) (all-weaker (GateLine (f .largest)) (λ x. length (numberLine (gateRow x)) ≤ 15) (λ x d. number-line-length (x .own) (x .left ∷ x .right ∷ []) (omega (arith, d .own .most, p .largest), (omega (arith, d .left, p .largest), (omega (arith, d .right, p .largest), tt)))) (f .gates) (p .gates)),
+      flat-length symbolLine 20 (f .symbols) (all-weaker (PrintedAt 0 (length (f .inputs))) (λ s. length (symbolLine s) ≤ 20) (λ s a. symbol-length 0 (length (f .inputs)) s (p .inputCount) a) (f .symbols) (p .symbols)),
+      p .room,
+      p .largest,
+      p .inputCount,
+      p .symbolCount,
+    ))
   where
     is : List ℕ
     is = flatMap (λ x. numberLine (inputRow x)) (f .inputs)

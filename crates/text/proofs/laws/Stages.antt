@@ -2,7 +2,7 @@
 -- Assumes nothing.
 use Prim.Native.Nat.{ℕ, _+_}
 use mathlib.Core.List.{List, [], _++_, map}
-use mathlib.Core.Path.{_≡_, refl}
+use mathlib.Core.Path.{_≡_}
 use lib.ListN.{getD}
 use Rattle.circuit.specs.Outcome.{Outcome, taken, _>>=_, _>>_}
 use Rattle.text.specs.Header.{Header}

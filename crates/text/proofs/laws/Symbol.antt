@@ -82,11 +82,12 @@ symbol-at-is h seen letter position text s d e = by test refl
         let spaced : text ≡ 32 ∷ drop 1 text = starts 32 text (eqb-true _ _ a) (omega arith) in
         let tail : drop (length name) (drop 1 text) ≡ 10 ∷ [] = ap {B = List ℕ} (λ t. drop (suc (length name)) t) (sym spaced) ∙ same-bytes-equal _ _ b in
         let whole : drop 1 text ≡ name ++ (10 ∷ []) = run-splits isNameByte (drop 1 text) ∙ ap {B = List ℕ} (λ t. name ++ t) tail in
-        rw (← same)
-        (record { digits = d; bytes = run-each isNameByte (drop 1 text); long = c; within = ltb-true _ _ f; fresh = not-true _ g },
-        refl,
-        refl,
-        spaced ∙ ap {B = List ℕ} (λ t. 32 ∷ t) whole)
+        rw (← same) (
+          record { digits = d; bytes = run-each isNameByte (drop 1 text); long = c; within = ltb-true _ _ f; fresh = not-true _ g },
+          refl,
+          refl,
+          spaced ∙ ap {B = List ℕ} (λ t. 32 ∷ t) whole,
+        )
 
     by : (u : Bool) → test ≡ u → Good h seen s × (s .letter ≡ letter) × (s .position ≡ position) × (text ≡ 32 ∷ s .name ++ (10 ∷ []))
     by true t =

@@ -67,26 +67,31 @@ position-digits f s r d (ofOutput e h) = omega arith
 pub symbols-good : (f : TextFile) (seen ss : List Symbol) → length (f .inputs) + length (f .latches) + length (f .gates) ≤ f .largest → 2 * f .largest + 1 < 10 ^ 7 → All (SymbolLine f) ss → Fresh Apart seen ss → AllGood (headerFor f) seen ss
 unfolding isName
 symbols-good f seen [] r d a p = tt
-symbols-good f seen (s ∷ ss) r d a p =
-    (record {
-      digits = position-digits f s r d (a .0 .placed);
-      bytes = name-bytes (s .name) (a .0 .bytes);
-      long = rw (le-leb 1 (length (s .name)) (a .0 .some), le-leb (length (s .name)) 200 (a .0 .most));
-      within = placed-within f s (a .0 .placed);
-      fresh = none-among (names (s .letter) (s .position)) seen (all-weaker (λ t. Apart t s) (λ t. names (s .letter) (s .position) t ≡ false) (apart-fresh s) seen (p .0));
-    },
-    symbols-good f (seen ++ (s ∷ [])) ss r d (a .1) (p .1))
+symbols-good f seen (s ∷ ss) r d a p = (
+  record {
+    digits = position-digits f s r d (a .0 .placed);
+    bytes = name-bytes (s .name) (a .0 .bytes);
+    long = rw (le-leb 1 (length (s .name)) (a .0 .some), le-leb (length (s .name)) 200 (a .0 .most));
+    within = placed-within f s (a .0 .placed);
+    fresh = none-among (names (s .letter) (s .position)) seen (all-weaker (λ t. Apart t s) (λ t. names (s .letter) (s .position) t ≡ false) (apart-fresh s) seen (p .0));
+  },
+  symbols-good f (seen ++ (s ∷ [])) ss r d (a .1) (p .1),
+)
 
 pub good-symbols : (f : TextFile) (seen ss : List Symbol) → AllGood (headerFor f) seen ss → All (SymbolLine f) ss × Fresh Apart seen ss
 unfolding isName
 good-symbols f seen [] g = (tt, tt)
 good-symbols f seen (s ∷ ss) g =
     let (a, b) = both-true (leb 1 (length (s .name))) (leb (length (s .name)) 200) (g .0 .long) in
-    let (lines, apart) = good-symbols f (seen ++ (s ∷ [])) ss (g .1) in
-    ((record {
-      placed = within-placed f s (g .0 .within);
-      some = leb-true 1 (length (s .name)) a;
-      most = leb-true (length (s .name)) 200 b;
-      bytes = bytes-name (s .name) (g .0 .bytes);
-    }, lines),
-    (all-weaker (λ t. names (s .letter) (s .position) t ≡ false) (λ t. Apart t s) (fresh-apart s) seen (among-none (names (s .letter) (s .position)) seen (g .0 .fresh)), apart))
+    let (lines, apart) = good-symbols f (seen ++ (s ∷ [])) ss (g .1) in (
+      (
+        record {
+          placed = within-placed f s (g .0 .within);
+          some = leb-true 1 (length (s .name)) a;
+          most = leb-true (length (s .name)) 200 b;
+          bytes = bytes-name (s .name) (g .0 .bytes);
+        },
+        lines,
+      ),
+      (all-weaker (λ t. names (s .letter) (s .position) t ≡ false) (λ t. Apart t s) (fresh-apart s) seen (among-none (names (s .letter) (s .position)) seen (g .0 .fresh)), apart),
+    )
