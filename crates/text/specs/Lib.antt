@@ -18,4 +18,6 @@ pub mod SymbolsAs
 pub mod TextFile
 pub mod Read
 pub mod Written
+pub mod InList
+pub mod WellFormed
 pub mod Printed

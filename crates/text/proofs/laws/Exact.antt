@@ -1,0 +1,209 @@
+-- Refusals are exact (01, "The numbers", 1 to 9): each number is given exactly when the table says so, in its order and at its place.
+-- Assumes nothing.
+use Prim.Native.Nat.{ℕ, _<_, _≤_}
+use native.Mathlib.Omega.{arith}
+use mathlib.Core.Bool.{Bool, true, false, true≢false}
+use mathlib.Core.List.{List, []}
+use mathlib.Core.Logic.{_↔_}
+use mathlib.Core.Option.{Option, none, some}
+use mathlib.Core.Path.{_≡_, refl, sym, _∙_, subst₂}
+use lib.Dec.{ltb}
+use lib.ListN.{length, getD, drop}
+use borrow.Author.Tests.{ltb-true, ltb-false, lt-ltb, le-ltb}
+use Rattle.circuit.specs.Circuit.{Circuit, tooMany}
+use Rattle.circuit.specs.Limits.{Limits}
+use Rattle.circuit.specs.Outcome.{Outcome, taken, refused, refuseIf}
+use Rattle.text.specs.Header.{Header, headerNumbers, headerOf, withinLimits}
+use Rattle.text.specs.Line.{lines}
+use Rattle.text.specs.Numbers.{fileTooLong, badHeader, headerLimit, tooManyInputs}
+use Rattle.text.specs.Read.{orBadHeader, linesRead, fileRead, circuitRead}
+use Rattle.text.specs.TextFile.{TextFile, circuitOf}
+use Rattle.text.proofs.laws.BodyBroken.{BodyBroken, lines-broken, broken-lines, body-range}
+use Rattle.text.proofs.laws.Header.{Headed, read-headed, headed-read, Within, within-is, within-of}
+use Rattle.text.proofs.laws.Line.{none-is-not-some}
+use Rattle.text.proofs.laws.Outcome.{taken-is-not-refused, taken-is, refused-number, refused-place}
+
+-- the file is short enough, its first line is this header, and that is within the limits: 1, 2 and 3 aren't given
+pub record Begun (limits : Limits) (bytes : List ℕ) (h : Header) : Type 0 where
+  pub short : length bytes ≤ limits .file
+  pub headed : Headed bytes h
+  pub within : Within limits h
+
+module _ (limits : Limits) (bytes : List ℕ) where
+  -- no header stands on the first line
+  abbrev pub Headless : Type 0
+  Headless = (h : Header) → Headed bytes h → ⊥
+
+  too-long : limits .file < length bytes → circuitRead limits bytes ≡ refused fileTooLong 0
+  unfolding circuitRead fileRead refuseIf
+  too-long a = rw (lt-ltb (limits .file) (length bytes) a)
+
+  no-header : length bytes ≤ limits .file → Headless → circuitRead limits bytes ≡ refused badHeader 1
+  unfolding circuitRead fileRead refuseIf orBadHeader
+  no-header a n = by (headerNumbers (getD (lines bytes) 0 [])) refl
+    where
+      by : (o : Option (List ℕ)) → headerNumbers (getD (lines bytes) 0 []) ≡ o → circuitRead limits bytes ≡ refused badHeader 1
+      by none e = rw (le-ltb (limits .file) (length bytes) a, e)
+      by (some fs) e = absurd (n (headerOf fs) (read-headed bytes fs e))
+
+  past-limit : length bytes ≤ limits .file → (h : Header) → Headed bytes h → (Within limits h → ⊥) → circuitRead limits bytes ≡ refused headerLimit 1
+  unfolding circuitRead fileRead refuseIf orBadHeader headerOf
+  past-limit a h t n = by (withinLimits limits h) refl
+    where
+      by : (u : Bool) → withinLimits limits h ≡ u → circuitRead limits bytes ≡ refused headerLimit 1
+      by true e = absurd (n (within-is limits h e))
+      by false e = rw (le-ltb (limits .file) (length bytes) a, headed-read bytes h t, e)
+
+  -- behind a good header the rest decides
+  pub begun-read : (h : Header) → Begun limits bytes h → fileRead limits bytes ≡ linesRead h (drop 1 (lines bytes))
+  unfolding fileRead refuseIf orBadHeader headerOf
+  begun-read h b = rw (le-ltb (limits .file) (length bytes) (b .short), headed-read bytes h (b .headed), within-of limits h (b .within))
+
+  body-refused : (h : Header) (number place : ℕ) → Begun limits bytes h → BodyBroken h (drop 1 (lines bytes)) number place → circuitRead limits bytes ≡ refused number place
+  unfolding circuitRead
+  body-refused h number place b k = rw (begun-read h b, broken-lines h (drop 1 (lines bytes)) number place k)
+
+  crowded-refused : (f : TextFile) → fileRead limits bytes ≡ taken f → tooMany limits (circuitOf f) ≡ true → circuitRead limits bytes ≡ refused tooManyInputs 0
+  unfolding circuitRead refuseIf
+  crowded-refused f e t = rw (e, t)
+
+  circuit-taken : (f : TextFile) → fileRead limits bytes ≡ taken f → tooMany limits (circuitOf f) ≡ false → circuitRead limits bytes ≡ taken (circuitOf f)
+  unfolding circuitRead refuseIf
+  circuit-taken f e t = rw (e, t)
+
+  -- how reading came out, in the order of the numbers
+  pub data Came : Type 0 where
+    long : limits .file < length bytes → Came
+    headless : length bytes ≤ limits .file → Headless → Came
+    limited : length bytes ≤ limits .file → (h : Header) → Headed bytes h → (Within limits h → ⊥) → Came
+    broken : (h : Header) (number place : ℕ) → Begun limits bytes h → BodyBroken h (drop 1 (lines bytes)) number place → Came
+    crowded : (f : TextFile) → fileRead limits bytes ≡ taken f → tooMany limits (circuitOf f) ≡ true → Came
+    fine : (f : TextFile) → fileRead limits bytes ≡ taken f → tooMany limits (circuitOf f) ≡ false → Came
+
+  came-body : (h : Header) → Begun limits bytes h → Came
+  came-body h b = by (linesRead h (drop 1 (lines bytes))) refl
+    where
+      counted : (f : TextFile) → fileRead limits bytes ≡ taken f → (u : Bool) → tooMany limits (circuitOf f) ≡ u → Came
+      counted f e true t = crowded f e t
+      counted f e false t = fine f e t
+
+      by : (o : Outcome TextFile) → linesRead h (drop 1 (lines bytes)) ≡ o → Came
+      by (refused number place) e = broken h number place b (lines-broken h (drop 1 (lines bytes)) number place e)
+      by (taken f) e = counted f (begun-read h b ∙ e) (tooMany limits (circuitOf f)) refl
+
+  pub came : Came
+  came = by (ltb (limits .file) (length bytes)) refl
+    where
+      judged : length bytes ≤ limits .file → (h : Header) → Headed bytes h → (u : Bool) → withinLimits limits h ≡ u → Came
+      judged a h t true e = came-body h (record { short = a; headed = t; within = within-is limits h e })
+      judged a h t false e = limited a h t (λ w. true≢false (sym (within-of limits h w) ∙ e))
+
+      first : length bytes ≤ limits .file → (o : Option (List ℕ)) → headerNumbers (getD (lines bytes) 0 []) ≡ o → Came
+      first a none e = headless a (λ h t. none-is-not-some _ (sym e ∙ headed-read bytes h t))
+      first a (some fs) e = judged a (headerOf fs) (read-headed bytes fs e) (withinLimits limits (headerOf fs)) refl
+
+      by : (u : Bool) → ltb (limits .file) (length bytes) ≡ u → Came
+      by true e = long (ltb-true _ _ e)
+      by false e = first (ltb-false _ _ e) (headerNumbers (getD (lines bytes) 0 [])) refl
+
+  -- the table: a number with its place, and when they are given
+  pub data Row (number place : ℕ) : Type 0 where
+    one : number ≡ fileTooLong → place ≡ 0 → limits .file < length bytes → Row number place
+    two : number ≡ badHeader → place ≡ 1 → length bytes ≤ limits .file → Headless → Row number place
+    three : number ≡ headerLimit → place ≡ 1 → length bytes ≤ limits .file → (h : Header) → Headed bytes h → (Within limits h → ⊥) → Row number place
+    fourToEight : (h : Header) → Begun limits bytes h → BodyBroken h (drop 1 (lines bytes)) number place → Row number place
+    nine : number ≡ tooManyInputs → place ≡ 0 → (f : TextFile) → fileRead limits bytes ≡ taken f → tooMany limits (circuitOf f) ≡ true → Row number place
+
+  row-refused : (number place : ℕ) → Row number place → circuitRead limits bytes ≡ refused number place
+  row-refused number place (one n p a) = rw (n, p) (too-long a)
+  row-refused number place (two n p a b) = rw (n, p) (no-header a b)
+  row-refused number place (three n p a h t w) = rw (n, p) (past-limit a h t w)
+  row-refused number place (fourToEight h b k) = body-refused h number place b k
+  row-refused number place (nine n p f e t) = rw (n, p) (crowded-refused f e t)
+
+  -- two refusals of one file are the same
+  same : (number place m q : ℕ) → circuitRead limits bytes ≡ refused number place → circuitRead limits bytes ≡ refused m q → (number ≡ m) × (place ≡ q)
+  same number place m q e f = (refused-number number place m q (sym e ∙ f), refused-place number place m q (sym e ∙ f))
+
+  refused-row : (number place : ℕ) → circuitRead limits bytes ≡ refused number place → Row number place
+  refused-row number place e = by came
+    where
+      by : Came → Row number place
+      by (long a) = let (n, p) = same number place fileTooLong 0 e (too-long a) in one n p a
+      by (headless a b) = let (n, p) = same number place badHeader 1 e (no-header a b) in two n p a b
+      by (limited a h t w) = let (n, p) = same number place headerLimit 1 e (past-limit a h t w) in three n p a h t w
+      by (broken h m q b k) =
+          let (n, p) = same number place m q e (body-refused h m q b k) in
+          fourToEight h b (subst₂ (λ (x y : ℕ). BodyBroken h (drop 1 (lines bytes)) x y) (sym n) (sym p) k)
+      by (crowded f g t) = let (n, p) = same number place tooManyInputs 0 e (crowded-refused f g t) in nine n p f g t
+      by (fine f g t) = absurd (taken-is-not-refused number place (circuitOf f) (sym (circuit-taken f g t) ∙ e))
+
+  -- a file is refused with a number and a place exactly if the table says so
+  pub refused-exactly : (number place : ℕ) → (circuitRead limits bytes ≡ refused number place) ↔ Row number place
+  refused-exactly number place = (refused-row number place, row-refused number place)
+
+  -- and row by row
+  pub one-exactly : (place : ℕ) → (circuitRead limits bytes ≡ refused fileTooLong place) ↔ ((limits .file < length bytes) × (place ≡ 0))
+  one-exactly place = (λ e. by (refused-row fileTooLong place e), λ t. row-refused fileTooLong place (one refl (t .1) (t .0)))
+    where
+      by : Row fileTooLong place → (limits .file < length bytes) × (place ≡ 0)
+      by (one n p a) = (a, p)
+      by (two n p a b) = absurd (omega (arith, n))
+      by (three n p a h t w) = absurd (omega (arith, n))
+      by (fourToEight h b k) = absurd (omega (arith, body-range h (drop 1 (lines bytes)) fileTooLong place k .0))
+      by (nine n p f e t) = absurd (omega (arith, n))
+
+  pub two-exactly : (place : ℕ) → (circuitRead limits bytes ≡ refused badHeader place) ↔ ((length bytes ≤ limits .file) × Headless × (place ≡ 1))
+  two-exactly place = (λ e. by (refused-row badHeader place e), λ t. row-refused badHeader place (two refl (t .2) (t .0) (t .1)))
+    where
+      by : Row badHeader place → (length bytes ≤ limits .file) × Headless × (place ≡ 1)
+      by (one n p a) = absurd (omega (arith, n))
+      by (two n p a b) = (a, b, p)
+      by (three n p a h t w) = absurd (omega (arith, n))
+      by (fourToEight h b k) = absurd (omega (arith, body-range h (drop 1 (lines bytes)) badHeader place k .0))
+      by (nine n p f e t) = absurd (omega (arith, n))
+
+  pub three-exactly : (place : ℕ) → (circuitRead limits bytes ≡ refused headerLimit place) ↔ ((h : Header) × (length bytes ≤ limits .file) × Headed bytes h × (Within limits h → ⊥) × (place ≡ 1))
+  three-exactly place = (λ e. by (refused-row headerLimit place e), λ t. row-refused headerLimit place (three refl (t .4) (t .1) (t .0) (t .2) (t .3)))
+    where
+      by : Row headerLimit place → (h : Header) × (length bytes ≤ limits .file) × Headed bytes h × (Within limits h → ⊥) × (place ≡ 1)
+      by (one n p a) = absurd (omega (arith, n))
+      by (two n p a b) = absurd (omega (arith, n))
+      by (three n p a h t w) = (h, a, t, w, p)
+      by (fourToEight h b k) = absurd (omega (arith, body-range h (drop 1 (lines bytes)) headerLimit place k .0))
+      by (nine n p f e t) = absurd (omega (arith, n))
+
+  pub four-to-eight-exactly : (number place : ℕ) → 4 ≤ number → number ≤ 8 → (circuitRead limits bytes ≡ refused number place) ↔ ((h : Header) × Begun limits bytes h × BodyBroken h (drop 1 (lines bytes)) number place)
+  four-to-eight-exactly number place low high = (λ e. by (refused-row number place e), λ t. row-refused number place (fourToEight (t .0) (t .1) (t .2)))
+    where
+      by : Row number place → (h : Header) × Begun limits bytes h × BodyBroken h (drop 1 (lines bytes)) number place
+      by (one n p a) = absurd (omega (arith, n, low))
+      by (two n p a b) = absurd (omega (arith, n, low))
+      by (three n p a h t w) = absurd (omega (arith, n, low))
+      by (fourToEight h b k) = (h, b, k)
+      by (nine n p f e t) = absurd (omega (arith, n, high))
+
+  pub nine-exactly : (place : ℕ) → (circuitRead limits bytes ≡ refused tooManyInputs place) ↔ ((f : TextFile) × (fileRead limits bytes ≡ taken f) × (tooMany limits (circuitOf f) ≡ true) × (place ≡ 0))
+  nine-exactly place = (λ e. by (refused-row tooManyInputs place e), λ t. row-refused tooManyInputs place (nine refl (t .3) (t .0) (t .1) (t .2)))
+    where
+      by : Row tooManyInputs place → (f : TextFile) × (fileRead limits bytes ≡ taken f) × (tooMany limits (circuitOf f) ≡ true) × (place ≡ 0)
+      by (one n p a) = absurd (omega (arith, n))
+      by (two n p a b) = absurd (omega (arith, n))
+      by (three n p a h t w) = absurd (omega (arith, n))
+      by (fourToEight h b k) = absurd (omega (arith, body-range h (drop 1 (lines bytes)) tooManyInputs place k .1))
+      by (nine n p f e t) = (f, e, t, p)
+
+  -- a circuit is read exactly if a file is taken whose circuit hasn't too many inputs of a sort
+  pub taken-circuit : (c : Circuit) → (circuitRead limits bytes ≡ taken c) ↔ ((f : TextFile) × (fileRead limits bytes ≡ taken f) × (tooMany limits (circuitOf f) ≡ false) × (circuitOf f ≡ c))
+  taken-circuit c = (λ e. by e came, λ t. circuit-taken (t .0) (t .1) (t .2) ∙ λ x. taken (t .3 x))
+    where
+      never : (number place : ℕ) → circuitRead limits bytes ≡ refused number place → circuitRead limits bytes ≡ taken c → ⊥
+      never number place r e = taken-is-not-refused number place c (sym e ∙ r)
+
+      by : circuitRead limits bytes ≡ taken c → Came → (f : TextFile) × (fileRead limits bytes ≡ taken f) × (tooMany limits (circuitOf f) ≡ false) × (circuitOf f ≡ c)
+      by e (long a) = absurd (never fileTooLong 0 (too-long a) e)
+      by e (headless a b) = absurd (never badHeader 1 (no-header a b) e)
+      by e (limited a h t w) = absurd (never headerLimit 1 (past-limit a h t w) e)
+      by e (broken h m q b k) = absurd (never m q (body-refused h m q b k) e)
+      by e (crowded f g t) = absurd (never tooManyInputs 0 (crowded-refused f g t) e)
+      by e (fine f g t) = (f, g, t, taken-is (circuitOf f) c (sym (circuit-taken f g t) ∙ e))
