@@ -1,1 +1,2 @@
 pub mod Alarms
+pub mod Decimal
