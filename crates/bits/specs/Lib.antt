@@ -3,3 +3,4 @@ pub mod Bit
 pub mod ByteBit
 pub mod Bytes
 pub mod Wrote
+pub mod InTurn

@@ -39,6 +39,13 @@ wrote-nothing at buffer = record { answer = omega arith; long = refl; stand = λ
 pub wrote-put : (bytes : List ℕ) (at : ℕ) (before after : List ℕ) → length after ≡ length before → after ≡ putAt before at bytes → Wrote bytes at before after (at + length bytes)
 wrote-put bytes at before after l e = record { answer = refl; long = l; stand = λ h. e ∙ put-fits before at bytes h }
 
+-- one byte: where it fits it is stored, and else the buffer stays
+pub wrote-byte : (b at : ℕ) (buffer : List ℕ) → Wrote (b ∷ []) at buffer (set buffer at b) (at + 1)
+wrote-byte b at buffer = record { answer = refl; long = length-set buffer at b; stand = λ h. refl }
+
+pub wrote-past : (b at : ℕ) (buffer : List ℕ) → length buffer ≤ at → Wrote (b ∷ []) at buffer buffer (at + 1)
+wrote-past b at buffer h = record { answer = refl; long = refl; stand = λ f. absurd (omega arith) }
+
 -- a text and then another
 pub wrote-both : {xs ys : List ℕ} {at mid next : ℕ} {before between after : List ℕ} → Wrote xs at before between mid → Wrote ys mid between after next → Wrote (xs ++ ys) at before after next
 wrote-both {xs} {ys} {at} {mid} {next} {before} {between} {after} w v =
