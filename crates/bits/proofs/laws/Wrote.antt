@@ -2,6 +2,7 @@
 use Prim.Native.Nat.{ℕ, zero, suc, _+_, _<_, _≤_}
 use native.Mathlib.Omega.{arith}
 use native.Mathlib.Nat.{add-zero, add-suc, suc-add, zero-add}
+use native.Mathlib.Decide.{decLe}
 use mathlib.Core.Bool.{cond}
 use mathlib.Core.List.{List, [], _∷_, _++_, append-nil}
 use mathlib.Core.Path.{_≡_, refl, sym, ap, _∙_}
@@ -36,8 +37,12 @@ put-refused buffer at bytes h = rw (lt-leb _ _ h)
 pub wrote-nothing : (at : ℕ) (buffer : List ℕ) → Wrote [] at buffer buffer at
 wrote-nothing at buffer = record { answer = omega arith; long = refl; stand = λ h. refl }
 
-pub wrote-put : (bytes : List ℕ) (at : ℕ) (before after : List ℕ) → length after ≡ length before → after ≡ putAt before at bytes → Wrote bytes at before after (at + length bytes)
-wrote-put bytes at before after l e = record { answer = refl; long = l; stand = λ h. e ∙ put-fits before at bytes h }
+pub length-put : (buffer : List ℕ) (at : ℕ) (bytes : List ℕ) → length (putAt buffer at bytes) ≡ length buffer
+length-put buffer at bytes = elim (decLe (at + length bytes) (length buffer)) [ yes h ↦ ap length (put-fits buffer at bytes h) ∙ length-sets buffer at bytes | no h ↦ ap length (put-refused buffer at bytes (omega arith)) ]
+
+-- what puts bytes at a place
+pub wrote-put : {bytes before after : List ℕ} {at next : ℕ} → next ≡ at + length bytes → after ≡ putAt before at bytes → Wrote bytes at before after next
+wrote-put {bytes} {before} {after} {at} n e = record { answer = n; long = ap length e ∙ length-put before at bytes; stand = λ h. e ∙ put-fits before at bytes h }
 
 -- one byte: where it fits it is stored, and else the buffer stays
 pub wrote-byte : (b at : ℕ) (buffer : List ℕ) → Wrote (b ∷ []) at buffer (set buffer at b) (at + 1)
