@@ -9,6 +9,13 @@ use Rattle.text.specs.Number.{decimal}
 use Rattle.text.specs.Symbol.{inputLetter, prefix}
 use Rattle.text.specs.Written.{numberLine, symbolLine}
 
+-- the most bytes that a number of 64 bits takes, with the byte behind it, and a line of at most three of them
+abbrev pub longestNumber : ℕ
+longestNumber = 21
+
+abbrev pub longestLine : ℕ
+longestLine = 63
+
 unfoldable pub inputLine : List ℕ → ℕ → List ℕ
 inputLine input i = numberLine (literalOf (getD input i 0) ∷ [])
 

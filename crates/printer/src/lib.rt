@@ -1,5 +1,6 @@
 // Prints a circuit (01, "The numbers", last paragraph): header, lines in the order read, a symbol for each controllable input.
 // Every writer takes the place where its bytes go and answers the place behind them; in a buffer that is too short it counts.
+// The bounds on places only keep their sums from wrapping.
 use circuit::Circuit;
 use circuit::Refusal;
 use circuit::Written;
@@ -12,12 +13,13 @@ ghost use lib.ListN.{length, getD};
 ghost use Rattle.bits.specs.InTurn.{inTurn};
 ghost use Rattle.bits.specs.Wrote.{Wrote};
 ghost use Rattle.circuit.specs.Answer.{WrittenAs};
+ghost use Rattle.circuit.specs.Limits.{base};
 ghost use Rattle.circuit.specs.Stored.{literalOf, meant};
 ghost use Rattle.text.specs.Header.{word};
 ghost use Rattle.text.specs.Number.{decimal};
 ghost use Rattle.text.specs.Printed.{printed, printedInto};
 ghost use Rattle.text.specs.Written.{numberLine};
-ghost use Rattle.printer.specs.Line.{inputLine, latchLine, gateLine, nameLine};
+ghost use Rattle.printer.specs.Line.{longestNumber, longestLine, inputLine, latchLine, gateLine, nameLine};
 
 // 10: lent buffer shorter than what must be written (01, "The numbers").
 const NO_ROOM: u8 = 10;
@@ -69,7 +71,7 @@ fn put_circuit(out: &mut [u8], c: Circuit) -> usize
 // The header line, at the front.
 fn put_header(out: &mut [u8], largest: u16, inputs: usize, latches: usize, gates: usize) -> usize
     ensures { λ r. ⌜ Wrote (word ++ numberLine (largest ∷ inputs ∷ latches ∷ 1 ∷ gates ∷ [])) 0 (now (out .entry)) (now (out .exit)) r ⌝ }
-    ensures { λ r. ⌜ r ≤ 109 ⌝ }
+    ensures { λ r. ⌜ r ≤ 2 * longestLine ⌝ }
 {
     let word = put_bytes(out, 0, b"aag ");
     let first = put_number(out, word, largest as u64, 32);
@@ -81,9 +83,9 @@ fn put_header(out: &mut [u8], largest: u16, inputs: usize, latches: usize, gates
 
 fn put_inputs(out: &mut [u8], at: usize, input: &[u16], n: usize) -> usize
     requires { ⌜ at < 2 ^ 30 ⌝ }
-    requires { ⌜ n ≤ 1000 ⌝ }
+    requires { ⌜ n ≤ base .variable ⌝ }
     ensures { λ r. ⌜ Wrote (inTurn (inputLine (now (input .entry))) n) at (now (out .entry)) (now (out .exit)) r ⌝ }
-    ensures { λ r. ⌜ r ≤ at + 63 * n ⌝ }
+    ensures { λ r. ⌜ r ≤ at + longestLine * n ⌝ }
 {
     let mut behind = at;
     let mut i = 0;
@@ -96,9 +98,9 @@ fn put_inputs(out: &mut [u8], at: usize, input: &[u16], n: usize) -> usize
 
 fn put_latches(out: &mut [u8], at: usize, latch: &[u16], next: &[u16], n: usize) -> usize
     requires { ⌜ at < 2 ^ 30 ⌝ }
-    requires { ⌜ n ≤ 1000 ⌝ }
+    requires { ⌜ n ≤ base .variable ⌝ }
     ensures { λ r. ⌜ Wrote (inTurn (latchLine (now (latch .entry)) (now (next .entry))) n) at (now (out .entry)) (now (out .exit)) r ⌝ }
-    ensures { λ r. ⌜ r ≤ at + 63 * n ⌝ }
+    ensures { λ r. ⌜ r ≤ at + longestLine * n ⌝ }
 {
     let mut behind = at;
     let mut i = 0;
@@ -112,7 +114,7 @@ fn put_latches(out: &mut [u8], at: usize, latch: &[u16], next: &[u16], n: usize)
 fn put_latch(out: &mut [u8], at: usize, latch: &[u16], next: &[u16], i: usize) -> usize
     requires { ⌜ at < 2 ^ 31 ⌝ }
     ensures { λ r. ⌜ Wrote (latchLine (now (latch .entry)) (now (next .entry)) i) at (now (out .entry)) (now (out .exit)) r ⌝ }
-    ensures { λ r. ⌜ r ≤ at + 63 ⌝ }
+    ensures { λ r. ⌜ r ≤ at + longestLine ⌝ }
 {
     let own = put_number(out, at, literal_at(latch, i), 32);
     put_number(out, own, literal_at(next, i), 10)
@@ -127,9 +129,9 @@ fn put_gates(
     n: usize,
 ) -> usize
     requires { ⌜ at < 2 ^ 30 ⌝ }
-    requires { ⌜ n ≤ 1000 ⌝ }
+    requires { ⌜ n ≤ base .variable ⌝ }
     ensures { λ r. ⌜ Wrote (inTurn (gateLine (now (gate .entry)) (now (left .entry)) (now (right .entry))) n) at (now (out .entry)) (now (out .exit)) r ⌝ }
-    ensures { λ r. ⌜ r ≤ at + 63 * n ⌝ }
+    ensures { λ r. ⌜ r ≤ at + longestLine * n ⌝ }
 {
     let mut behind = at;
     let mut i = 0;
@@ -143,7 +145,7 @@ fn put_gates(
 fn put_gate(out: &mut [u8], at: usize, gate: &[u16], left: &[u16], right: &[u16], i: usize) -> usize
     requires { ⌜ at < 2 ^ 31 ⌝ }
     ensures { λ r. ⌜ Wrote (gateLine (now (gate .entry)) (now (left .entry)) (now (right .entry)) i) at (now (out .entry)) (now (out .exit)) r ⌝ }
-    ensures { λ r. ⌜ r ≤ at + 63 ⌝ }
+    ensures { λ r. ⌜ r ≤ at + longestLine ⌝ }
 {
     let own = put_number(out, at, literal_at(gate, i), 32);
     let first = put_number(out, own, literal_at(left, i), 32);
@@ -153,9 +155,9 @@ fn put_gate(out: &mut [u8], at: usize, gate: &[u16], left: &[u16], right: &[u16]
 // The symbols of the controllable inputs.
 fn put_names(out: &mut [u8], at: usize, controllable: &[u8], n: usize) -> usize
     requires { ⌜ at < 2 ^ 30 ⌝ }
-    requires { ⌜ n ≤ 1000 ⌝ }
+    requires { ⌜ n ≤ base .variable ⌝ }
     ensures { λ r. ⌜ Wrote (inTurn (nameLine (now (controllable .entry))) n) at (now (out .entry)) (now (out .exit)) r ⌝ }
-    ensures { λ r. ⌜ r ≤ at + 63 * n ⌝ }
+    ensures { λ r. ⌜ r ≤ at + longestLine * n ⌝ }
 {
     let mut behind = at;
     let mut i = 0;
@@ -170,7 +172,7 @@ fn put_names(out: &mut [u8], at: usize, controllable: &[u8], n: usize) -> usize
 fn put_name(out: &mut [u8], at: usize, controllable: &[u8], i: usize) -> usize
     requires { ⌜ at < 2 ^ 31 ⌝ }
     ensures { λ r. ⌜ Wrote (nameLine (now (controllable .entry)) i) at (now (out .entry)) (now (out .exit)) r ⌝ }
-    ensures { λ r. ⌜ r ≤ at + 63 ⌝ }
+    ensures { λ r. ⌜ r ≤ at + longestLine ⌝ }
 {
     if i < controllable.len() {
         if controllable[i] != 0 {
@@ -187,7 +189,7 @@ fn put_name(out: &mut [u8], at: usize, controllable: &[u8], i: usize) -> usize
 fn put_number(out: &mut [u8], at: usize, n: u64, end: u8) -> usize
     requires { ⌜ at < 2 ^ 32 ⌝ }
     ensures { λ r. ⌜ Wrote (decimal n ++ (end ∷ [])) at (now (out .entry)) (now (out .exit)) r ⌝ }
-    ensures { λ r. ⌜ r ≤ at + 21 ⌝ }
+    ensures { λ r. ⌜ r ≤ at + longestNumber ⌝ }
 {
     let last = at + put_decimal(out, at, n);
     let behind = last + 1;

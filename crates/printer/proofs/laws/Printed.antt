@@ -10,7 +10,9 @@ use lib.Seq.{getD-take}
 use Rattle.below.specs.Table.{table}
 use Rattle.below.proofs.laws.Table.{length-table}
 use Rattle.bits.specs.InTurn.{inTurn}
+use Rattle.bits.specs.Wrote.{Wrote}
 use Rattle.bits.proofs.laws.InTurn.{in-turn-same}
+use Rattle.bits.proofs.laws.Wrote.{wrote-both}
 use Rattle.circuit.specs.Circuit.{Circuit, Input, Latch, Gate}
 use Rattle.circuit.specs.Stored.{literalOf, inputsOf, latchesOf, gatesOf, lent, meant}
 use Rattle.circuit.specs.declared.Circuit.{Circuit as Value}
@@ -82,3 +84,7 @@ printed-parts v inputs latches gates a b c =
     let whole : printed (meant v) ≡ partsOf v inputs latches gates ++ [] =
     rw (inputs-length, latches-length, gates-length, inputs-print, latches-print, gates-print, names-print, a, b, c) in
     whole ∙ append-nil (partsOf v inputs latches gates)
+
+-- the parts written one behind the other are the print
+pub wrote-printed : (v : Value) (inputs latches gates : ℕ) {p q r s t n : ℕ} {before l₁ l₂ l₃ l₄ l₅ after : List ℕ} → printed (meant v) ≡ partsOf v inputs latches gates → Wrote (word ++ numberLine (v .largest ∷ inputs ∷ latches ∷ 1 ∷ gates ∷ [])) 0 before l₁ p → Wrote (inTurn (inputLine (v .input)) inputs) p l₁ l₂ q → Wrote (inTurn (latchLine (v .latch) (v .next)) latches) q l₂ l₃ r → Wrote (numberLine (literalOf (v .output) ∷ [])) r l₃ l₄ s → Wrote (inTurn (gateLine (v .gate) (v .left) (v .right)) gates) s l₄ l₅ t → Wrote (inTurn (nameLine (v .controllable)) inputs) t l₅ after n → Wrote (printed (meant v)) 0 before after n
+wrote-printed v inputs latches gates e h i l o g c = rw e (wrote-both (wrote-both (wrote-both (wrote-both (wrote-both h i) l) o) g) c)

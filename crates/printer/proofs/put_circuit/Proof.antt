@@ -1,14 +1,10 @@
 -- `printer::put_circuit` writes the parts of the print one behind the other; the counts are those of the circuit that the value
 -- stands for. Assumes nothing.
-use Prim.Native.Nat.{ℕ, min}
 use native.Mathlib.Omega.{arith}
-use mathlib.Core.List.{List}
-use mathlib.Core.Path.{_≡_, sym, ap, _∙_, subst}
-use lib.ListN.{length, take, length-map, length-take}
-use Rattle.bits.specs.Wrote.{Wrote}
-use Rattle.bits.proofs.laws.Wrote.{wrote-both}
+use mathlib.Core.Path.{_≡_, sym, _∙_}
+use lib.ListN.{length, length-map, length-take}
 use Rattle.printer.proofs.laws.Line.{wrote-output}
-use Rattle.printer.proofs.laws.Printed.{printed-parts}
+use Rattle.printer.proofs.laws.Printed.{printed-parts, wrote-printed}
 use borrow.Author.Needs.{needs}
 use Rattle.printer.proofs.put_circuit.Statement.{statement}
 use Rattle.printer.proofs.put_circuit.Tie as tie
@@ -144,21 +140,17 @@ returns c =
     let least = header .before .before .before .before .least in
     let least2 = header .before .before .before .least2 in
     let least3 = header .before .before .least3 in
-    subst (λ (l : List ℕ). Wrote l 0 (start .args .out .now) (names .put-names .last .0) (names .put-names .result))
-    (sym
+    wrote-printed v (least .result) (least2 .result) (least3 .result)
     (printed-parts v (least .result) (least2 .result) (least3 .result)
     (omega (arith, least .ensures, length-take (v .inputs) (v .input), length-input start))
     (omega (arith, least2 .ensures, length-take (v .latches) (v .latch), length-latch start))
-    (omega (arith, least3 .ensures, length-take (v .gates) (v .gate), length-gate start))))
-    (wrote-both
-    (wrote-both
-    (wrote-both
-    (wrote-both
-    (wrote-both (header .put-header .ensures .0) (inputs .put-inputs .ensures .0))
-    (latches .put-latches .ensures .0))
-    (wrote-output (v .output) (output .before .literal-at .ensures) (output .put-number .ensures .0)))
-    (gates .put-gates .ensures .0))
-    (names .put-names .ensures .0))
+    (omega (arith, least3 .ensures, length-take (v .gates) (v .gate), length-gate start)))
+    (header .put-header .ensures .0)
+    (inputs .put-inputs .ensures .0)
+    (latches .put-latches .ensures .0)
+    (wrote-output (v .output) (output .before .literal-at .ensures) (output .put-number .ensures .0))
+    (gates .put-gates .ensures .0)
+    (names .put-names .ensures .0)
 
 pub put-circuit-spec : {M : Type 1} → statement M
 put-circuit-spec =
