@@ -31,3 +31,17 @@ written-bytes bytes before after n h w =
 pub written-refused : (bytes buffer : List ℕ) → length buffer < length bytes → WrittenAs (fitted bytes (length buffer)) buffer buffer (Refused (record { number = noRoom; place = 0 }))
 unfolding writtenOutcome countOf bufferAfter
 written-refused bytes buffer h = rw (fitted-refused bytes (length buffer) h) (record { answer = refl; bytes = refl })
+
+same-written : (r s : Written) → writtenOutcome r ≡ writtenOutcome s → r ≡ s
+unfolding writtenOutcome
+same-written (Bytes n) (Bytes m) e = ap {B = Written} Bytes cc
+same-written (Bytes n) (Refused s) e = cc
+same-written (Refused r) (Bytes m) e = cc
+same-written (Refused r) (Refused s) e =
+    let number : r .number ≡ s .number = cc in
+    let place : r .place ≡ s .place = cc in
+    λ x. Refused (record { number = number x; place = place x })
+
+-- the promise of a writer decides its answer and every byte of its buffer
+pub written-decided : (outcome : Outcome (List ℕ)) (before l m : List ℕ) (r s : Written) → WrittenAs outcome before l r → WrittenAs outcome before m s → (r ≡ s) × (l ≡ m)
+written-decided outcome before l m r s v w = (same-written r s (v .answer ∙ sym (w .answer)), v .bytes ∙ sym (w .bytes))
