@@ -1,7 +1,7 @@
 // Numbers in decimal (01, "The file" and "Listings to compare"), written at a place of a lent buffer.
 ghost use mathlib.Core.Path.{_≡_};
 ghost use Prim.Native.Nat.{_+_, _%_, _≤_};
-ghost use lib.ListN.{length, set};
+ghost use lib.ListN.{length};
 ghost use lib.Seq.{sets};
 ghost use Rattle.bits.specs.Wrote.{putAt};
 ghost use Rattle.text.specs.Number.{decimal};

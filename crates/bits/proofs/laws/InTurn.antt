@@ -1,9 +1,9 @@
 -- Texts one behind the other are written one by one. Assumes nothing.
-use Prim.Native.Nat.{ℕ, zero, suc, _+_, _*_, _<_, _≤_}
+use Prim.Native.Nat.{ℕ, zero, suc, _+_, _<_}
 use native.Mathlib.Omega.{arith}
 use native.Mathlib.Numerals.{add-one}
 use mathlib.Core.List.{List, [], _++_}
-use mathlib.Core.Path.{_≡_, refl, sym, ap, ap₂, _∙_, subst}
+use mathlib.Core.Path.{_≡_, refl, ap₂}
 use Rattle.bits.specs.InTurn.{inTurn}
 use Rattle.bits.specs.Wrote.{Wrote}
 use Rattle.bits.proofs.laws.Wrote.{wrote-nothing, wrote-both}

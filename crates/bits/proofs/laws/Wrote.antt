@@ -1,14 +1,12 @@
 -- Writing one text and then another is writing both, and what a buffer holds afterwards. Assumes nothing.
-use Prim.Native.Nat.{ℕ, zero, suc, _+_, _<_, _≤_}
+use Prim.Native.Nat.{ℕ, suc, _+_, _<_, _≤_}
 use native.Mathlib.Omega.{arith}
-use native.Mathlib.Nat.{add-zero, add-suc, suc-add, zero-add}
+use native.Mathlib.Nat.{add-zero, zero-add}
 use native.Mathlib.Decide.{decLe}
-use mathlib.Core.Bool.{cond}
-use mathlib.Core.List.{List, [], _∷_, _++_, append-nil}
+use mathlib.Core.List.{List, [], _∷_, _++_}
 use mathlib.Core.Path.{_≡_, refl, sym, ap, _∙_}
-use lib.Dec.{leb}
-use lib.ListN.{length, take, drop, set, length-set, length-append}
-use lib.Seq.{sets, sets-eq, length-sets, set-comm, set-out}
+use lib.ListN.{length, drop, set, length-set, length-append}
+use lib.Seq.{sets, sets-eq, length-sets, set-comm}
 use borrow.Author.Tests.{le-leb, lt-leb}
 use Rattle.bits.specs.Wrote.{Wrote, putAt}
 

@@ -1,14 +1,12 @@
 -- What a writer may answer: the count of bytes that fit and stand at the front, or 10 at 0 with the buffer as it was. Assumes nothing.
-use Prim.Native.Nat.{ℕ, _+_, _<_, _≤_}
+use Prim.Native.Nat.{ℕ, _<_, _≤_}
 use native.Mathlib.Omega.{arith}
-use mathlib.Core.List.{List, _++_}
+use mathlib.Core.List.{List}
 use mathlib.Core.Path.{_≡_, refl, sym, ap, _∙_}
-use lib.Dec.{ltb}
-use lib.ListN.{length, drop}
+use lib.ListN.{length}
 use borrow.Author.Tests.{lt-ltb, le-ltb}
 use Rattle.bits.specs.Wrote.{Wrote}
 use Rattle.bits.proofs.laws.Wrote.{sets-front}
-use Rattle.circuit.specs.declared.Refusal.{Refusal}
 use Rattle.circuit.specs.declared.Written.{Written}
 use Rattle.circuit.specs.declared.Written.the-variants.{Bytes, Refused}
 use Rattle.circuit.specs.Answer.{writtenOutcome, noRoom, fitted, countOf, bufferAfter, WrittenAs}

@@ -1,5 +1,5 @@
 -- `decimal::decimal_length` counts right: a tenth of a number has one digit less. Assumes nothing.
-use Prim.Native.Nat.{_+_, _^_, _≤_, _<_}
+use Prim.Native.Nat.{_+_, _≤_}
 use native.Mathlib.Omega.{arith}
 use mathlib.Core.Path.{_≡_}
 use lib.ListN.{length}

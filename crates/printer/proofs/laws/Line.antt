@@ -1,9 +1,7 @@
 -- A line is written number by number, each with the byte behind it. Assumes nothing.
-use Prim.Native.Nat.{ℕ, _+_}
-use mathlib.Core.Bool.{cond}
+use Prim.Native.Nat.{ℕ}
 use mathlib.Core.List.{List, [], _∷_, _++_, append-assoc}
-use mathlib.Core.Path.{_≡_, refl, sym, ap, _∙_, subst}
-use lib.Dec.{eqb}
+use mathlib.Core.Path.{_≡_, sym, ap, _∙_, subst}
 use lib.ListN.{getD}
 use borrow.Author.Tests.{eq-eqb, ne-eqb}
 use Rattle.bits.specs.Wrote.{Wrote}

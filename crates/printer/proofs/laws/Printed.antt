@@ -3,17 +3,17 @@ use Prim.Native.Nat.{ℕ, min, _<_}
 use native.Mathlib.Omega.{arith}
 use mathlib.Core.Bool.{Bool, true, false, cond, not}
 use mathlib.Core.List.{List, [], _∷_, _++_, map, flatMap, append-nil}
-use mathlib.Core.Path.{_≡_, refl, sym, ap, ap₂, _∙_}
+use mathlib.Core.Path.{_≡_, refl, ap, _∙_}
 use lib.Dec.{eqb}
 use lib.ListN.{length, getD, take, length-map, length-take}
 use lib.Seq.{getD-take}
-use Rattle.below.specs.Table.{table}
 use Rattle.below.proofs.laws.Table.{length-table}
 use Rattle.bits.specs.InTurn.{inTurn}
 use Rattle.bits.specs.Wrote.{Wrote}
 use Rattle.bits.proofs.laws.InTurn.{in-turn-same}
 use Rattle.bits.proofs.laws.Wrote.{wrote-both}
-use Rattle.circuit.specs.Circuit.{Circuit, Input, Latch, Gate}
+use Rattle.circuit.specs.Circuit.{Input, Latch, Gate}
+use Rattle.circuit.specs.Limits.{base}
 use Rattle.circuit.specs.Stored.{literalOf, inputsOf, latchesOf, gatesOf, lent, meant}
 use Rattle.circuit.specs.declared.Circuit.{Circuit as Value}
 use Rattle.text.specs.Header.{word}
@@ -33,11 +33,11 @@ inputs-print n input controllable =
     ∙ flat-map-table (λ (i : Input). numberLine (i .own ∷ [])) _ (length (take n input))
     ∙ in-turn-same _ _ (length (take n input)) (λ i h. ap (λ (l : ℕ). numberLine (literalOf l ∷ [])) (kept n input i h))
 
-latches-print : (n : ℕ) (latch next : List ℕ) → flatMap (λ (l : Latch). numberLine (l .own ∷ l .next ∷ [])) (latchesOf (take n latch) next) ≡ inTurn (latchLine latch next) (min (length (take n latch)) 10)
+latches-print : (n : ℕ) (latch next : List ℕ) → flatMap (λ (l : Latch). numberLine (l .own ∷ l .next ∷ [])) (latchesOf (take n latch) next) ≡ inTurn (latchLine latch next) (min (length (take n latch)) (base .latches))
 unfolding latchesOf latchLine
 latches-print n latch next =
-    flat-map-table (λ (l : Latch). numberLine (l .own ∷ l .next ∷ [])) _ (min (length (take n latch)) 10)
-    ∙ in-turn-same _ _ (min (length (take n latch)) 10) (λ i h. ap (λ (l : ℕ). numberLine (literalOf l ∷ literalOf (getD next i 0) ∷ [])) (kept n latch i (omega arith)))
+    flat-map-table (λ (l : Latch). numberLine (l .own ∷ l .next ∷ [])) _ (min (length (take n latch)) (base .latches))
+    ∙ in-turn-same _ _ (min (length (take n latch)) (base .latches)) (λ i h. ap (λ (l : ℕ). numberLine (literalOf l ∷ literalOf (getD next i 0) ∷ [])) (kept n latch i (omega arith)))
 
 gates-print : (n : ℕ) (gate left right : List ℕ) → flatMap (λ (g : Gate). numberLine (g .own ∷ g .left ∷ g .right ∷ [])) (gatesOf (take n gate) left right) ≡ inTurn (gateLine gate left right) (length (take n gate))
 unfolding gatesOf gateLine
@@ -59,9 +59,9 @@ inputs-length : (n : ℕ) (input controllable : List ℕ) → length (map (λ (i
 unfolding inputsOf
 inputs-length n input controllable = simp (length-map, length-table)
 
-latches-length : (n : ℕ) (latch next : List ℕ) → length (latchesOf (take n latch) next) ≡ min (length (take n latch)) 10
+latches-length : (n : ℕ) (latch next : List ℕ) → length (latchesOf (take n latch) next) ≡ min (length (take n latch)) (base .latches)
 unfolding latchesOf
-latches-length n latch next = length-table _ (min (length (take n latch)) 10)
+latches-length n latch next = length-table _ (min (length (take n latch)) (base .latches))
 
 gates-length : (n : ℕ) (gate left right : List ℕ) → length (gatesOf (take n gate) left right) ≡ length (take n gate)
 unfolding gatesOf
@@ -78,7 +78,7 @@ partsOf v inputs latches gates =
     ++ inTurn (gateLine (v .gate) (v .left) (v .right)) gates
     ++ inTurn (nameLine (v .controllable)) inputs
 
-pub printed-parts : (v : Value) (inputs latches gates : ℕ) → inputs ≡ length (take (v .inputs) (v .input)) → latches ≡ min (length (take (v .latches) (v .latch))) 10 → gates ≡ length (take (v .gates) (v .gate)) → printed (meant v) ≡ partsOf v inputs latches gates
+pub printed-parts : (v : Value) (inputs latches gates : ℕ) → inputs ≡ length (take (v .inputs) (v .input)) → latches ≡ min (length (take (v .latches) (v .latch))) (base .latches) → gates ≡ length (take (v .gates) (v .gate)) → printed (meant v) ≡ partsOf v inputs latches gates
 unfolding printed printedFile textOf meant lent commentText
 printed-parts v inputs latches gates a b c =
     let whole : printed (meant v) ≡ partsOf v inputs latches gates ++ [] =

@@ -2,7 +2,7 @@
 use Prim.Native.Nat.{ℕ, _+_, _*_, _<_, _≤_}
 use native.Mathlib.Omega.{arith}
 use mathlib.Core.List.{List}
-use mathlib.Core.Path.{_≡_, refl, subst}
+use mathlib.Core.Path.{_≡_, subst}
 use Rattle.bits.specs.InTurn.{inTurn}
 use Rattle.bits.specs.Wrote.{Wrote}
 use Rattle.printer.specs.Line.{longestLine}

@@ -1,8 +1,8 @@
 -- A part of a buffer with a text copied to its front, put back, is the buffer with the text at the part's place. Assumes nothing.
-use Prim.Native.Nat.{ℕ, _+_, _-_, _≤_}
+use Prim.Native.Nat.{ℕ, _+_, _≤_}
 use native.Mathlib.Omega.{arith}
-use mathlib.Core.List.{List, [], _∷_, _++_, append-assoc}
-use mathlib.Core.Path.{_≡_, refl, sym, ap, ap₂, _∙_}
+use mathlib.Core.List.{List, _++_, append-assoc}
+use mathlib.Core.Path.{_≡_, sym, ap, ap₂, _∙_}
 use lib.ListN.{length, take, drop, length-take, length-drop, take-append-drop}
 use lib.Seq.{sets, sets-eq, take-length, drop-append-le, drop-drop}
 

@@ -1,13 +1,11 @@
--- `printer::put_name` writes a symbol in its four parts where the input is controllable, and else nothing. Assumes nothing.
-use Prim.Native.Nat.{ℕ, _+_}
+-- `printer::lines::put_name` writes a symbol in its four parts where the input is controllable, and else nothing. Assumes nothing.
 use native.Mathlib.Omega.{arith}
-use mathlib.Core.Path.{ap}
 use lib.ListN.{List·getD-eq-default}
 use Rattle.bits.proofs.laws.Wrote.{wrote-put}
 use Rattle.printer.proofs.laws.Line.{wrote-name, wrote-no-name}
 use borrow.Author.Needs.{needs}
-use Rattle.printer.proofs.put_name.Statement.{statement}
-use Rattle.printer.proofs.put_name.Tie as tie
+use Rattle.printer.proofs.lines.put_name.Statement.{statement}
+use Rattle.printer.proofs.lines.put_name.Tie as tie
 
 shared-slice-read-if2 : tie.Need-shared-slice-read-if2
 shared-slice-read-if2 c = search needs

@@ -1,12 +1,12 @@
--- `printer::put_inputs` writes the input lines: each turn writes one more behind those before it. Assumes nothing.
-use Prim.Native.Nat.{_+_, _-_, _≤_}
+-- `printer::lines::put_inputs` writes the input lines: each turn writes one more behind those before it. Assumes nothing.
+use Prim.Native.Nat.{_-_}
 use native.Mathlib.Omega.{arith}
 use Rattle.printer.specs.Line.{inputLine}
 use Rattle.printer.proofs.laws.Line.{wrote-input}
 use Rattle.printer.proofs.laws.Section.{Section, section-start, section-more, section-ends}
 use borrow.Author.Needs.{needs}
-use Rattle.printer.proofs.put_inputs.Statement.{statement}
-use Rattle.printer.proofs.put_inputs.Tie as tie
+use Rattle.printer.proofs.lines.put_inputs.Statement.{statement}
+use Rattle.printer.proofs.lines.put_inputs.Tie as tie
 
 abbrev Inv-loop : tie.InvT-loop
 Inv-loop out₀ at input n behind₀ i₀ out behind i = Section (inputLine input) n at out₀ out behind i

@@ -1,11 +1,10 @@
--- `printer::put_names` writes the symbols of the controllable inputs: each turn writes one more behind those before it. Assumes nothing.
-use Prim.Native.Nat.{_+_, _-_, _≤_}
+-- `printer::lines::put_names` writes the symbols of the controllable inputs: each turn writes one more behind those before it. Assumes nothing.
+use Prim.Native.Nat.{_-_}
 use native.Mathlib.Omega.{arith}
 use Rattle.printer.specs.Line.{nameLine}
 use Rattle.printer.proofs.laws.Section.{Section, section-start, section-more, section-ends}
-use borrow.Author.Needs.{needs}
-use Rattle.printer.proofs.put_names.Statement.{statement}
-use Rattle.printer.proofs.put_names.Tie as tie
+use Rattle.printer.proofs.lines.put_names.Statement.{statement}
+use Rattle.printer.proofs.lines.put_names.Tie as tie
 
 abbrev Inv-loop : tie.InvT-loop
 Inv-loop out₀ at controllable n behind₀ i₀ out behind i = Section (nameLine controllable) n at out₀ out behind i

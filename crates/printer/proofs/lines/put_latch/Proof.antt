@@ -1,9 +1,9 @@
--- `printer::put_latch` writes a latch line number by number. Assumes nothing.
+-- `printer::lines::put_latch` writes a latch line number by number. Assumes nothing.
 use native.Mathlib.Omega.{arith}
 use Rattle.printer.proofs.laws.Line.{wrote-latch}
 use borrow.Author.Needs.{needs}
-use Rattle.printer.proofs.put_latch.Statement.{statement}
-use Rattle.printer.proofs.put_latch.Tie as tie
+use Rattle.printer.proofs.lines.put_latch.Statement.{statement}
+use Rattle.printer.proofs.lines.put_latch.Tie as tie
 
 literal-at-requires : tie.Need-literal-at-requires
 literal-at-requires c κs = search needs

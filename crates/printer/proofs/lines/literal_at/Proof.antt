@@ -1,12 +1,12 @@
--- `printer::literal_at` answers the literal where it is there and may stand in a circuit, and 0 else. Assumes nothing.
+-- `printer::lines::literal_at` answers the literal where it is there and may stand in a circuit, and 0 else. Assumes nothing.
 use native.Mathlib.Omega.{arith}
 use mathlib.Core.Path.{sym, ap, _∙_}
 use lib.ListN.{List·getD-eq-default}
 use Rattle.circuit.specs.Stored.{literalOf}
 use Rattle.circuit.proofs.laws.LiteralOf.{literal-kept, literal-dropped}
 use borrow.Author.Needs.{needs}
-use Rattle.printer.proofs.literal_at.Statement.{statement}
-use Rattle.printer.proofs.literal_at.Tie as tie
+use Rattle.printer.proofs.lines.literal_at.Statement.{statement}
+use Rattle.printer.proofs.lines.literal_at.Tie as tie
 
 mul-literal : tie.Need-mul-literal
 mul-literal c = search needs

@@ -1,9 +1,9 @@
--- `printer::put_gate` writes a gate line number by number. Assumes nothing.
+-- `printer::lines::put_gate` writes a gate line number by number. Assumes nothing.
 use native.Mathlib.Omega.{arith}
 use Rattle.printer.proofs.laws.Line.{wrote-gate}
 use borrow.Author.Needs.{needs}
-use Rattle.printer.proofs.put_gate.Statement.{statement}
-use Rattle.printer.proofs.put_gate.Tie as tie
+use Rattle.printer.proofs.lines.put_gate.Statement.{statement}
+use Rattle.printer.proofs.lines.put_gate.Tie as tie
 
 literal-at-requires : tie.Need-literal-at-requires
 literal-at-requires c κs = search needs

@@ -1,11 +1,10 @@
--- `printer::put_latches` writes the latch lines: each turn writes one more behind those before it. Assumes nothing.
-use Prim.Native.Nat.{_+_, _-_, _≤_}
+-- `printer::lines::put_latches` writes the latch lines: each turn writes one more behind those before it. Assumes nothing.
+use Prim.Native.Nat.{_-_}
 use native.Mathlib.Omega.{arith}
 use Rattle.printer.specs.Line.{latchLine}
 use Rattle.printer.proofs.laws.Section.{Section, section-start, section-more, section-ends}
-use borrow.Author.Needs.{needs}
-use Rattle.printer.proofs.put_latches.Statement.{statement}
-use Rattle.printer.proofs.put_latches.Tie as tie
+use Rattle.printer.proofs.lines.put_latches.Statement.{statement}
+use Rattle.printer.proofs.lines.put_latches.Tie as tie
 
 abbrev Inv-loop : tie.InvT-loop
 Inv-loop out₀ at latch next n behind₀ i₀ out behind i = Section (latchLine latch next) n at out₀ out behind i

@@ -1,12 +1,12 @@
--- `printer::put_number` writes the digits and then the byte behind them. Assumes nothing.
+-- `printer::lines::put_number` writes the digits and then the byte behind them. Assumes nothing.
 use Prim.Native.Nat.{ℕ, _+_}
 use mathlib.Core.Path.{ap}
 use native.Mathlib.Omega.{arith}
 use Rattle.bits.proofs.laws.Wrote.{wrote-put, wrote-both, wrote-byte, wrote-past}
 use Rattle.text.proofs.laws.Decimal.{length-decimal-most}
 use borrow.Author.Needs.{needs}
-use Rattle.printer.proofs.put_number.Statement.{statement}
-use Rattle.printer.proofs.put_number.Tie as tie
+use Rattle.printer.proofs.lines.put_number.Statement.{statement}
+use Rattle.printer.proofs.lines.put_number.Tie as tie
 
 put-decimal-requires : tie.Need-put-decimal-requires
 put-decimal-requires c κs = search needs
