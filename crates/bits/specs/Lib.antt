@@ -2,3 +2,5 @@ pub mod Digits
 pub mod Bit
 pub mod ByteBit
 pub mod Bytes
+pub mod Wrote
+pub mod InTurn

@@ -1,1 +1,3 @@
 pub mod SameCircuit
+pub mod LiteralOf
+pub mod Answer

@@ -33,3 +33,5 @@ pub mod Exact
 pub mod PrintedSymbols
 pub mod Size
 pub mod PrintedReadsBack
+pub mod Decimal
+pub mod PrintedNames

@@ -1,0 +1,45 @@
+-- What a writer may answer: the count of bytes that fit and stand at the front, or 10 at 0 with the buffer as it was. Assumes nothing.
+use Prim.Native.Nat.{ℕ, _<_, _≤_}
+use native.Mathlib.Omega.{arith}
+use mathlib.Core.List.{List}
+use mathlib.Core.Path.{_≡_, refl, sym, ap, _∙_}
+use lib.ListN.{length}
+use borrow.Author.Tests.{lt-ltb, le-ltb}
+use Rattle.bits.specs.Wrote.{Wrote}
+use Rattle.bits.proofs.laws.Wrote.{sets-front}
+use Rattle.circuit.specs.declared.Written.{Written}
+use Rattle.circuit.specs.declared.Written.the-variants.{Bytes, Refused}
+use Rattle.circuit.specs.Answer.{writtenOutcome, noRoom, fitted, countOf, bufferAfter, WrittenAs}
+use Rattle.circuit.specs.Outcome.{Outcome, taken, refused, refuseIf}
+
+pub fitted-taken : (bytes : List ℕ) (room : ℕ) → length bytes ≤ room → fitted bytes room ≡ taken bytes
+unfolding fitted refuseIf
+fitted-taken bytes room h = rw (le-ltb room (length bytes) h)
+
+pub fitted-refused : (bytes : List ℕ) (room : ℕ) → room < length bytes → fitted bytes room ≡ refused noRoom 0
+unfolding fitted refuseIf
+fitted-refused bytes room h = rw (lt-ltb room (length bytes) h)
+
+pub written-bytes : (bytes before after : List ℕ) (n : ℕ) → length bytes ≤ length before → Wrote bytes 0 before after n → WrittenAs (fitted bytes (length before)) before after (Bytes n)
+unfolding writtenOutcome countOf bufferAfter
+written-bytes bytes before after n h w =
+    rw (fitted-taken bytes (length before) h)
+    (record { answer = ap {B = Outcome ℕ} taken (omega (arith, w .answer)); bytes = w .stand (omega arith) ∙ sets-front before bytes h })
+
+pub written-refused : (bytes buffer : List ℕ) → length buffer < length bytes → WrittenAs (fitted bytes (length buffer)) buffer buffer (Refused (record { number = noRoom; place = 0 }))
+unfolding writtenOutcome countOf bufferAfter
+written-refused bytes buffer h = rw (fitted-refused bytes (length buffer) h) (record { answer = refl; bytes = refl })
+
+same-written : (r s : Written) → writtenOutcome r ≡ writtenOutcome s → r ≡ s
+unfolding writtenOutcome
+same-written (Bytes n) (Bytes m) e = ap {B = Written} Bytes cc
+same-written (Bytes n) (Refused s) e = cc
+same-written (Refused r) (Bytes m) e = cc
+same-written (Refused r) (Refused s) e =
+    let number : r .number ≡ s .number = cc in
+    let place : r .place ≡ s .place = cc in
+    λ x. Refused (record { number = number x; place = place x })
+
+-- the promise of a writer decides its answer and every byte of its buffer
+pub written-decided : (outcome : Outcome (List ℕ)) (before l m : List ℕ) (r s : Written) → WrittenAs outcome before l r → WrittenAs outcome before m s → (r ≡ s) × (l ≡ m)
+written-decided outcome before l m r s v w = (same-written r s (v .answer ∙ sym (w .answer)), v .bytes ∙ sym (w .bytes))
