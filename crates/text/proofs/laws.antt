@@ -17,7 +17,6 @@ pub mod Line
 pub mod Header
 pub mod Section
 pub mod Rules
-pub mod Used
 pub mod Symbol
 pub mod SymbolRule
 pub mod Lines
@@ -35,3 +34,4 @@ pub mod Size
 pub mod PrintedReadsBack
 pub mod Decimal
 pub mod PrintedNames
+pub mod UsedLoop

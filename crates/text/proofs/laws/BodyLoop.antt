@@ -30,7 +30,7 @@ use Rattle.text.specs.UsedAs.{UsedAs, UsedLines}
 use Rattle.text.proofs.laws.Judged.{unknown-unmarked}
 use Rattle.text.proofs.laws.SectionLoop.{line-part, line-ends-within}
 use Rattle.text.proofs.laws.Position.{lines-behind}
-use Rattle.text.proofs.laws.Used.{used-append}
+use Rattle.text.proofs.laws.UsedLoop.{used-append}
 use lib.Seq.{drop-drop}
 
 -- where nothing is marked, nothing is defined

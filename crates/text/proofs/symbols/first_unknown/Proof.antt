@@ -4,7 +4,7 @@ use borrow.Author.Needs.{needs}
 use lib.ListN.{length, getD, drop}
 use mathlib.Core.Path.{_≡_, refl, sym, ap, _∙_}
 use native.Mathlib.Omega.{arith}
-use Rattle.text.proofs.laws.Used.{Known, known-start, known-more, unknown-here, all-known}
+use Rattle.text.proofs.laws.UsedLoop.{Known, known-start, known-more, unknown-here, all-known}
 use Rattle.text.specs.Marks.{unmarked}
 use Rattle.text.proofs.symbols.first_unknown.Statement.{statement}
 use Rattle.text.proofs.symbols.first_unknown.Tie as tie
