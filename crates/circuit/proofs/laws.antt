@@ -1,1 +1,2 @@
 pub mod SameCircuit
+pub mod StoredLiteral
