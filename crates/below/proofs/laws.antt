@@ -2,3 +2,4 @@ pub mod Least
 pub mod Table
 pub mod Count
 pub mod Take
+pub mod Passed
