@@ -3,3 +3,4 @@ pub mod Table
 pub mod Count
 pub mod Take
 pub mod Passed
+pub mod Filled
