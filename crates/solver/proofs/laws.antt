@@ -1,2 +1,3 @@
 pub mod RankTable
 pub mod Over
+pub mod Solved

@@ -7,7 +7,7 @@ ghost use lib.Dec.{eqb};
 ghost use lib.ListN.{take};
 ghost use Rattle.below.specs.Least.{any};
 ghost use Rattle.below.specs.Table.{table};
-ghost use Rattle.circuit.specs.Circuit.{latchCount, controllableCount};
+ghost use Rattle.circuit.specs.Circuit.{latchCount};
 ghost use Rattle.circuit.specs.Limits.{base};
 ghost use Rattle.circuit.specs.Stored.{lent, meant, solvable};
 ghost use Rattle.game.specs.CircuitGame.{circuitGame, isRealizable};
@@ -18,6 +18,70 @@ ghost use Rattle.solver.specs.RankTable.{rankTable, roundTable};
 
 // Above every rank: a state of rank 1 to this one is a state of any rank but 0.
 const ANY: u16 = 65535;
+
+// The ranks of a circuit's states; 0 behind the last state.
+pub fn ranks(c: Circuit) -> [u16; Circuit::STATES]
+    ensures { λ r. ⌜ r ≡ rankTable (circuitGame (solvable (meant c))) ⌝ }
+{
+    ranks_counted(
+        c.inputs,
+        &c.input,
+        &c.controllable,
+        c.latches,
+        &c.latch,
+        &c.next,
+        c.output,
+        c.gates,
+        &c.gate,
+        &c.left,
+        &c.right,
+    )
+}
+
+// The verdict.
+pub fn realizable(c: Circuit) -> bool
+    ensures { λ r. ⌜ r ≡ isRealizable (solvable (meant c)) ⌝ }
+{
+    let ranked = ranks(c);
+    ranked[0] == 0
+}
+
+// The ranks of the states of a circuit over lent arrays; 0 behind the last state. A circuit with too many inputs counts as the empty one.
+pub fn ranks_lent<'a>(
+    input: &'a [u16],
+    controllable: &'a [u8],
+    latch: &'a [u16],
+    next: &'a [u16],
+    output: u16,
+    gate: &'a [u16],
+    left: &'a [u16],
+    right: &'a [u16],
+) -> [u16; Circuit::STATES]
+    ensures { λ r. ⌜ r ≡ rankTable (circuitGame (solvable (lent 0 (now (input .entry)) (now (controllable .entry)) (now (latch .entry)) (now (next .entry)) output (now (gate .entry)) (now (left .entry)) (now (right .entry))))) ⌝ }
+{
+    let c = circuit::counts::controllables(input, controllable);
+    let u = input.len() - c;
+    if Circuit::UNCONTROLLABLE < u {
+        return zeros();
+    }
+    if Circuit::CONTROLLABLE < c {
+        return zeros();
+    }
+    let l = below::fewer(latch.len(), Circuit::LATCHES);
+    rounds(
+        input,
+        controllable,
+        latch,
+        next,
+        output,
+        gate,
+        left,
+        right,
+        numbers(u),
+        numbers(c),
+        numbers(l),
+    )
+}
 
 // The least control that keeps in the set of the states of rank 0; 0 outside it, or where there is none.
 pub fn reply_lent<'a>(
@@ -103,8 +167,46 @@ fn found(i: usize, n: usize) -> u8
     if i < n { i as u8 } else { 0 }
 }
 
-// The rank of a state after round k + 1.
-fn ranked<'a>(
+fn ranks_counted<'a>(
+    inputs: usize,
+    input: &'a [u16],
+    controllable: &'a [u8],
+    latches: usize,
+    latch: &'a [u16],
+    next: &'a [u16],
+    output: u16,
+    gates: usize,
+    gate: &'a [u16],
+    left: &'a [u16],
+    right: &'a [u16],
+) -> [u16; Circuit::STATES]
+    ensures { λ r. ⌜ r ≡ rankTable (circuitGame (solvable (lent 0 (take inputs (now (input .entry))) (now (controllable .entry)) (take latches (now (latch .entry))) (now (next .entry)) output (take gates (now (gate .entry))) (now (left .entry)) (now (right .entry))))) ⌝ }
+{
+    let i = below::fewer(inputs, input.len());
+    let l = below::fewer(latches, latch.len());
+    let g = below::fewer(gates, gate.len());
+    ranks_lent(
+        &input[..i],
+        controllable,
+        &latch[..l],
+        next,
+        output,
+        &gate[..g],
+        left,
+        right,
+    )
+}
+
+// How many numbers n bits make.
+fn numbers(n: usize) -> usize
+    requires { ⌜ n ≤ base .latches ⌝ }
+    ensures { λ r. ⌜ r ≡ 2 ^ n ⌝ }
+{
+    1 << n
+}
+
+// Rounds until one changes nothing: then none after it does.
+fn rounds<'a>(
     input: &'a [u16],
     controllable: &'a [u8],
     latch: &'a [u16],
@@ -115,37 +217,44 @@ fn ranked<'a>(
     right: &'a [u16],
     readings: usize,
     controls: usize,
-    ranks: &'a [u16],
-    k: u16,
-    state: u16,
-) -> u16
-    requires { ⌜ k ≤ 2 ^ base .latches ⌝ }
-    ensures { λ r. ⌜ r ≡ roundOf (played readings controls (lent 0 (now (input .entry)) (now (controllable .entry)) (now (latch .entry)) (now (next .entry)) output (now (gate .entry)) (now (left .entry)) (now (right .entry)))) k (ranksIn (now (ranks .entry))) state ⌝ }
+    states: usize,
+) -> [u16; Circuit::STATES]
+    requires { ⌜ 0 < controls ⌝ }
+    requires { ⌜ states ≡ 2 ^ latchCount (lent 0 (now input) (now controllable) (now latch) (now next) output (now gate) (now left) (now right)) ⌝ }
+    ensures { λ r. ⌜ r ≡ rankTable (played readings controls (lent 0 (now (input .entry)) (now (controllable .entry)) (now (latch .entry)) (now (next .entry)) output (now (gate .entry)) (now (left .entry)) (now (right .entry)))) ⌝ }
 {
-    let x = moves::rank_at(ranks, state as usize);
-    if 0 < x {
-        return x;
+    let mut ranks = zeros();
+    let mut k = 0;
+    while k < states {
+        let after = round(
+            input,
+            controllable,
+            latch,
+            next,
+            output,
+            gate,
+            left,
+            right,
+            readings,
+            controls,
+            states,
+            ranks,
+            k as u16,
+        );
+        let changed = changes(&ranks, &after, states);
+        if !changed {
+            return ranks;
+        }
+        ranks = after;
+        k += 1;
     }
-    let r = moves::least_reading(
-        input,
-        controllable,
-        latch,
-        next,
-        output,
-        gate,
-        left,
-        right,
-        readings,
-        controls,
-        ranks,
-        k,
-        state,
-    );
-    if r < below::fewer(readings, Circuit::READINGS) {
-        k + 1
-    } else {
-        0
-    }
+    ranks
+}
+
+fn zeros() -> [u16; Circuit::STATES]
+    ensures { λ r. ⌜ r ≡ table (λ s. 0) (2 ^ base .latches) ⌝ }
+{
+    [0u16; Circuit::STATES]
 }
 
 fn round<'a>(
@@ -191,6 +300,51 @@ fn round<'a>(
     after
 }
 
+// The rank of a state after round k + 1.
+fn ranked<'a>(
+    input: &'a [u16],
+    controllable: &'a [u8],
+    latch: &'a [u16],
+    next: &'a [u16],
+    output: u16,
+    gate: &'a [u16],
+    left: &'a [u16],
+    right: &'a [u16],
+    readings: usize,
+    controls: usize,
+    ranks: &'a [u16],
+    k: u16,
+    state: u16,
+) -> u16
+    requires { ⌜ k ≤ 2 ^ base .latches ⌝ }
+    ensures { λ r. ⌜ r ≡ roundOf (played readings controls (lent 0 (now (input .entry)) (now (controllable .entry)) (now (latch .entry)) (now (next .entry)) output (now (gate .entry)) (now (left .entry)) (now (right .entry)))) k (ranksIn (now (ranks .entry))) state ⌝ }
+{
+    let x = moves::rank_at(ranks, state as usize);
+    if 0 < x {
+        return x;
+    }
+    let r = moves::least_reading(
+        input,
+        controllable,
+        latch,
+        next,
+        output,
+        gate,
+        left,
+        right,
+        readings,
+        controls,
+        ranks,
+        k,
+        state,
+    );
+    if r < below::fewer(readings, Circuit::READINGS) {
+        k + 1
+    } else {
+        0
+    }
+}
+
 // Some state's rank differs.
 fn changes<'a>(ranks: &'a [u16], after: &'a [u16], states: usize) -> bool
     ensures { λ r. ⌜ r ≡ any (λ s. not (eqb (ranksIn (now (ranks .entry)) s) (ranksIn (now (after .entry)) s))) states ⌝ }
@@ -203,10 +357,4 @@ fn changes<'a>(ranks: &'a [u16], after: &'a [u16], states: usize) -> bool
         s += 1;
     }
     false
-}
-
-fn zeros() -> [u16; Circuit::STATES]
-    ensures { λ r. ⌜ r ≡ table (λ s. 0) (2 ^ base .latches) ⌝ }
-{
-    [0u16; Circuit::STATES]
 }

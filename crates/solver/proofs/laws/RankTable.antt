@@ -8,11 +8,12 @@ use mathlib.Core.Bool.{Bool, true, false, cond, not, _&&_}
 use mathlib.Core.List.{List}
 use mathlib.Core.Path.{_≡_, refl, sym, ap, ap₂, _∙_}
 use lib.Dec.{leb, ltb, eqb}
+use lib.ListN.{length}
 use borrow.Author.Tests.{lt-ltb, le-ltb, eqb-true, not-true, not-false}
 use Rattle.below.specs.Least.{least, any}
 use Rattle.below.specs.Table.{table}
 use Rattle.below.proofs.laws.Least.{any-none}
-use Rattle.below.proofs.laws.Table.{getD-table, getD-table-past, table-same}
+use Rattle.below.proofs.laws.Table.{length-table, getD-table, getD-table-past, table-same}
 use Rattle.circuit.specs.Limits.{base}
 use Rattle.game.specs.Game.{Game, Proper}
 use Rattle.game.specs.Keeps.{answered}
@@ -116,3 +117,38 @@ module _ (g : Game) (proper : Proper g) (few : g .states ≤ 2 ^ base .latches) 
 
       still : Still g k
       still = still-of g k (λ s h. sym (ap (λ (n : ℕ). ranksAfter g n s) (add-one k)) ∙ sym (in-table g few (k + 1) s h) ∙ sym (same s h) ∙ in-table g few k s h)
+
+-- what the rounds of the code go by: a proper game of so many states, no more than a circuit may have
+pub record Fair (g : Game) (states : ℕ) : Type 0 where
+  pub proper : Proper g
+  pub few : g .states ≤ 2 ^ base .latches
+  pub all : states ≡ g .states
+
+-- the list after k rounds, of at most as many as there are states
+pub record Ranked (g : Game) (states k : ℕ) (ranks : List ℕ) : Type 0 where
+  pub within : k ≤ states
+  pub is : ranks ≡ tableAfter g k
+
+pub rounds-start : (g : Game) (states : ℕ) (zeros : List ℕ) → zeros ≡ table (λ s. 0) (2 ^ base .latches) → Ranked g states 0 zeros
+rounds-start g states zeros e = record { within = omega arith; is = e ∙ table-before g }
+
+pub ranked-long : (g : Game) (states k : ℕ) (ranks : List ℕ) → Ranked g states k ranks → length ranks ≡ 2 ^ base .latches
+unfolding tableAfter
+ranked-long g states k ranks r = ap length (r .is) ∙ length-table _ (2 ^ base .latches)
+
+pub round-long : (g : Game) (states k : ℕ) (ranks after : List ℕ) → after ≡ roundTable g states k ranks → length after ≡ 2 ^ base .latches
+unfolding roundTable
+round-long g states k ranks after e = ap length e ∙ length-table _ (2 ^ base .latches)
+
+module _ (g : Game) (states k : ℕ) (ranks after : List ℕ) (fair : Fair g states) (ranked : Ranked g states k ranks) where
+  next-is : after ≡ roundTable g states k ranks → after ≡ tableAfter g (k + 1)
+  next-is e = e ∙ ap₂ (λ (n : ℕ) (l : List ℕ). roundTable g n k l) (fair .all) (ranked .is) ∙ round-after g (fair .proper) (fair .few) k
+
+  pub rounds-next : k < states → after ≡ roundTable g states k ranks → Ranked g states (k + 1) after
+  rounds-next h e = record { within = omega arith; is = next-is e }
+
+  pub rounds-stop : (changed : Bool) → after ≡ roundTable g states k ranks → changed ≡ any (λ s. not (eqb (ranksIn ranks s) (ranksIn after s))) states → changed ≡ false → ranks ≡ rankTable g
+  rounds-stop changed e f q = ranked .is ∙ unchanged-is-last g (fair .proper) (fair .few) k (omega (arith, ranked .within, fair .all)) (sym (λ x. any (λ s. not (eqb (ranksIn (ranked .is x) s) (ranksIn (next-is e x) s))) (fair .all x)) ∙ sym f ∙ q)
+
+  pub rounds-end : states ≤ k → ranks ≡ rankTable g
+  rounds-end h = ranked .is ∙ ap (tableAfter g) {x = k} {y = g .states} (omega (arith, ranked .within, fair .all)) ∙ table-last g
