@@ -3,13 +3,11 @@
 use circuit::Circuit;
 use step::Control;
 use step::Reading;
-ghost use Prim.Native.Nat.{ℕ, _^_, _≤_, min};
+ghost use Prim.Native.Nat.{_^_, min};
 ghost use mathlib.Core.Path.{_≡_};
-ghost use lib.ListN.{getD};
 ghost use Rattle.below.specs.Least.{least};
 ghost use Rattle.circuit.specs.Limits.{base};
 ghost use Rattle.circuit.specs.Stored.{lent};
-ghost use Rattle.game.specs.Game.{Game};
 ghost use Rattle.game.specs.Keeps.{keeps};
 ghost use Rattle.game.specs.Rank.{notRanked, defeats};
 ghost use Rattle.moves.specs.Played.{played, ranksIn};

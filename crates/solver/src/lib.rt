@@ -1,6 +1,6 @@
 // The solver (01, "The game"): ranks by rounds, each worked out from the one before, kept whole; and from ranks the replies and attacks.
 use circuit::Circuit;
-ghost use Prim.Native.Nat.{ℕ, suc, _^_, _<_, _≤_};
+ghost use Prim.Native.Nat.{_^_, _<_, _≤_};
 ghost use mathlib.Core.Bool.{not};
 ghost use mathlib.Core.Path.{_≡_};
 ghost use lib.Dec.{eqb};

@@ -1,6 +1,6 @@
 // The step of a circuit (01, "The game").
 use circuit::Circuit;
-ghost use Prim.Native.Nat.{_<_, _≤_, _/_, min};
+ghost use Prim.Native.Nat.{_<_, _/_, min};
 ghost use mathlib.Core.Bool.{cond, false, not, _&&_};
 ghost use mathlib.Core.Path.{_≡_};
 ghost use lib.Dec.{eqb};

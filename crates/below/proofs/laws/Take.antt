@@ -1,9 +1,9 @@
 -- A count above a list's length counts as that length. Assumes nothing.
-use Prim.Native.Nat.{ℕ, min, _≤_}
+use Prim.Native.Nat.{ℕ, min}
 use native.Mathlib.Omega.{arith}
 use native.Mathlib.Decide.{decLt}
 use mathlib.Core.List.{List}
-use mathlib.Core.Path.{_≡_, refl, sym, ap, _∙_}
+use mathlib.Core.Path.{_≡_, sym, ap, _∙_}
 use lib.ListN.{length, take}
 use lib.Seq.{take-all}
 

@@ -5,13 +5,13 @@ use native.Mathlib.Omega.{arith}
 use native.Mathlib.Numerals.{add-one}
 use mathlib.Core.Bool.{Bool, true, false, cond, not}
 use mathlib.Core.List.{List, [], _∷_}
-use mathlib.Core.Path.{_≡_, refl, sym, ap, _∙_}
+use mathlib.Core.Path.{_≡_, refl, ap, _∙_}
 use lib.Dec.{eqb}
 use lib.ListN.{length, getD, drop}
 use Rattle.below.specs.Table.{table}
 use Rattle.below.proofs.laws.Table.{length-table, drop-table, drop-table-all}
 use Rattle.bits.specs.Bit.{oneIf}
-use Rattle.circuit.specs.Circuit.{Circuit, Input, inputsThat, latchCount, uncontrollableCount, controllableCount}
+use Rattle.circuit.specs.Circuit.{Input, inputsThat, latchCount, uncontrollableCount, controllableCount}
 use Rattle.circuit.specs.Limits.{base}
 use Rattle.circuit.specs.Stored.{literalOf, inputsOf, latchesOf, lent}
 

@@ -1,14 +1,10 @@
 -- `moves::defeats_lent` meets its contract: the search for a control that keeps went through all of them.
 use borrow.Author.Needs.{needs}
 use Rattle.circuit.specs.Stored.{lent}
-use Rattle.below.proofs.fewer.Reads as fewer-reads
 use Rattle.moves.specs.Played.{played, ranksIn}
 use Rattle.moves.proofs.laws.Played.{none-defeats}
 use Rattle.moves.proofs.defeats_lent.Statement.{statement}
 use Rattle.moves.proofs.defeats_lent.Tie as tie
-use Rattle.moves.proofs.defeats_lent.Reads as reads
-use Rattle.moves.proofs.least_control.Reads as least-control-reads
-use Rattle.moves.proofs.defeats_lent.Lts as lts
 
 least-control-requires : tie.Need-least-control-requires
 least-control-requires c κs = search needs

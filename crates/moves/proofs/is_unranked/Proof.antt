@@ -7,9 +7,6 @@ use Rattle.moves.specs.Played.{ranksIn}
 use Rattle.moves.proofs.laws.Played.{above-unranked}
 use Rattle.moves.proofs.is_unranked.Statement.{statement}
 use Rattle.moves.proofs.is_unranked.Tie as tie
-use Rattle.moves.proofs.is_unranked.Reads as reads
-use Rattle.moves.proofs.rank_at.Reads as rank-at-reads
-use Rattle.moves.proofs.is_unranked.Lts as lts
 
 rank-at-requires : tie.Need-rank-at-requires
 rank-at-requires c κs = search needs

@@ -2,14 +2,10 @@
 use borrow.Author.Needs.{needs}
 use Rattle.circuit.specs.Stored.{lent}
 use Rattle.game.specs.Rank.{notRanked}
-use Rattle.step.proofs.step_lent.Reads as step-lent-reads
 use Rattle.moves.specs.Played.{ranksIn}
 use Rattle.moves.proofs.laws.Played.{error-keeps, next-keeps}
 use Rattle.moves.proofs.keeps_lent.Statement.{statement}
 use Rattle.moves.proofs.keeps_lent.Tie as tie
-use Rattle.moves.proofs.keeps_lent.Reads as reads
-use Rattle.moves.proofs.is_unranked.Reads as is-unranked-reads
-use Rattle.moves.proofs.keeps_lent.Lts as lts
 
 step-lent-requires : tie.Need-step-lent-requires
 step-lent-requires c κs = search needs

@@ -1,14 +1,13 @@
 -- What the code finds of a move is what the game says: of a step, of a rank and of a search. Assumes nothing.
-use Prim.Native.Nat.{ℕ, _<_, _≤_}
+use Prim.Native.Nat.{ℕ, _≤_}
 use native.Mathlib.Decide.{decLt}
 use native.Mathlib.Omega.{arith}
 use mathlib.Core.Bool.{Bool, true, false, not, _&&_}
-use mathlib.Core.Path.{_≡_, refl, sym, ap, _∙_}
+use mathlib.Core.Path.{_≡_, sym, ap, _∙_}
 use lib.Dec.{leb, ltb}
 use borrow.Author.Tests.{lt-ltb, le-ltb, le-leb, lt-leb}
 use Rattle.below.specs.Least.{least, any}
 use Rattle.circuit.specs.Circuit.{Circuit}
-use Rattle.circuit.specs.Limits.{base}
 use Rattle.game.specs.Keeps.{keeps, answered}
 use Rattle.game.specs.Rank.{notRanked, defeats}
 use Rattle.game.proofs.laws.Rank.{is-ranked, unranked-above}

@@ -8,13 +8,9 @@ use Rattle.circuit.specs.Limits.{base}
 use Rattle.circuit.specs.Stored.{lent}
 use Rattle.game.specs.Keeps.{keeps}
 use Rattle.game.specs.Rank.{notRanked}
-use Rattle.below.proofs.fewer.Reads as fewer-reads
 use Rattle.moves.specs.Played.{played, ranksIn}
 use Rattle.moves.proofs.least_control.Statement.{statement}
 use Rattle.moves.proofs.least_control.Tie as tie
-use Rattle.moves.proofs.least_control.Reads as reads
-use Rattle.moves.proofs.keeps_lent.Reads as keeps-lent-reads
-use Rattle.moves.proofs.least_control.Lts as lts
 
 abbrev Inv-loop : tie.InvT-loop
 Inv-loop input controllable latch next output gate left right controls ranks bound state reading n k₀ k = Passed (keeps (played 0 controls (lent 0 input controllable latch next output gate left right)) (notRanked (ranksIn ranks) bound) state reading) (min controls (2 ^ base .controllable)) k

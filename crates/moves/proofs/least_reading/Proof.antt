@@ -8,13 +8,9 @@ use Rattle.circuit.specs.Limits.{base}
 use Rattle.circuit.specs.Stored.{lent}
 use Rattle.game.specs.Keeps.{keeps, answered}
 use Rattle.game.specs.Rank.{defeats}
-use Rattle.below.proofs.fewer.Reads as fewer-reads
 use Rattle.moves.specs.Played.{played, ranksIn}
 use Rattle.moves.proofs.least_reading.Statement.{statement}
 use Rattle.moves.proofs.least_reading.Tie as tie
-use Rattle.moves.proofs.least_reading.Reads as reads
-use Rattle.moves.proofs.defeats_lent.Reads as defeats-lent-reads
-use Rattle.moves.proofs.least_reading.Lts as lts
 
 abbrev Inv-loop : tie.InvT-loop
 Inv-loop input controllable latch next output gate left right readings controls ranks bound state n r₀ r = Passed (defeats (played readings controls (lent 0 input controllable latch next output gate left right)) (ranksIn ranks) bound state) (min readings (2 ^ base .uncontrollable)) r

@@ -5,8 +5,6 @@ use borrow.Author.Needs.{needs}
 use Rattle.moves.specs.Played.{ranksIn}
 use Rattle.moves.proofs.rank_at.Statement.{statement}
 use Rattle.moves.proofs.rank_at.Tie as tie
-use Rattle.moves.proofs.rank_at.Reads as reads
-use Rattle.moves.proofs.rank_at.Lts as lts
 
 mul-result : tie.Need-mul-result
 mul-result c = search needs

@@ -2,18 +2,15 @@
 use Prim.Native.Nat.{_-_}
 use native.Mathlib.Omega.{arith}
 use mathlib.Core.Bool.{not}
-use mathlib.Core.Path.{sym, ap, ap₂, _∙_}
+use mathlib.Core.Path.{sym, ap, _∙_}
 use lib.Dec.{eqb}
 use borrow.Author.Tests.{eq-eqb, ne-eqb}
 use borrow.Author.Needs.{needs}
 use Rattle.below.proofs.laws.Least.{any-of, none-any}
 use Rattle.below.proofs.laws.Passed.{Passed, passed-start, passed-next}
 use Rattle.moves.specs.Played.{ranksIn}
-use Rattle.moves.proofs.rank_at.Reads as rank-at-reads
 use Rattle.solver.proofs.changes.Statement.{statement}
 use Rattle.solver.proofs.changes.Tie as tie
-use Rattle.solver.proofs.changes.Reads as reads
-use Rattle.solver.proofs.changes.Lts as lts
 
 abbrev Inv-loop : tie.InvT-loop
 Inv-loop ranks after states s₀ s = Passed (λ t. not (eqb (ranksIn ranks t) (ranksIn after t))) states s

@@ -3,8 +3,6 @@ use borrow.Author.Needs.{needs}
 use Rattle.solver.proofs.laws.Over.{found-below, found-none}
 use Rattle.solver.proofs.found.Statement.{statement}
 use Rattle.solver.proofs.found.Tie as tie
-use Rattle.solver.proofs.found.Reads as reads
-use Rattle.solver.proofs.found.Lts as lts
 
 cast-result : tie.Need-cast-result
 cast-result c = search needs

@@ -9,14 +9,13 @@ use mathlib.Core.List.{List}
 use mathlib.Core.Path.{_≡_, refl, sym, ap, ap₂, _∙_}
 use lib.Dec.{leb, ltb, eqb}
 use lib.ListN.{length}
-use borrow.Author.Tests.{lt-ltb, le-ltb, eqb-true, not-true, not-false}
+use borrow.Author.Tests.{lt-ltb, le-ltb, eqb-true, not-false}
 use Rattle.below.specs.Least.{least, any}
 use Rattle.below.specs.Table.{table}
 use Rattle.below.proofs.laws.Least.{any-none}
 use Rattle.below.proofs.laws.Table.{length-table, getD-table, getD-table-past, table-same}
 use Rattle.circuit.specs.Limits.{base}
 use Rattle.game.specs.Game.{Game, Proper}
-use Rattle.game.specs.Keeps.{answered}
 use Rattle.game.specs.Rank.{notRanked, defeats, defeated, round, ranksAfter, rank}
 use Rattle.game.proofs.laws.Keeps.{answered-same, defeated-by}
 use Rattle.game.proofs.laws.Rounds.{defeated-same, Still, still-ranks}

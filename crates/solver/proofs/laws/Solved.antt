@@ -7,7 +7,7 @@ use mathlib.Core.Bool.{Bool, true, false, cond, not, _||_, true≢false}
 use mathlib.Core.List.{List}
 use mathlib.Core.Path.{_≡_, refl, sym, ap, _∙_}
 use lib.Dec.{ltb, eqb}
-use lib.ListN.{length, getD}
+use lib.ListN.{getD}
 use lib.Pow.{pow-mono, pow-pos}
 use borrow.Author.Tests.{lt-ltb, le-ltb, eq-eqb, ne-eqb}
 use Rattle.below.specs.Least.{least, any, every}
@@ -23,7 +23,7 @@ use Rattle.circuit.specs.Reset.{isReset}
 use Rattle.circuit.specs.Stored.{lent, solvable, emptyCircuit}
 use Rattle.circuit.proofs.laws.Counts.{lent-latches}
 use Rattle.game.specs.CircuitGame.{circuitGame, isRealizable}
-use Rattle.game.specs.Game.{Game, Proper}
+use Rattle.game.specs.Game.{Proper}
 use Rattle.game.specs.Keeps.{keeps, answered, safe}
 use Rattle.game.specs.Rank.{notRanked, defeated, round, ranksAfter, rank, inRegion}
 use Rattle.game.specs.Verdict.{realizable}

@@ -5,8 +5,6 @@ use lib.Pow.{pow-lt}
 use borrow.Author.Needs.{needs}
 use Rattle.solver.proofs.numbers.Statement.{statement}
 use Rattle.solver.proofs.numbers.Tie as tie
-use Rattle.solver.proofs.numbers.Reads as reads
-use Rattle.solver.proofs.numbers.Lts as lts
 
 shl-result : tie.Need-shl-result
 shl-result c = search needs

@@ -1,16 +1,10 @@
 -- `solver::ranked` meets its contract: a rank once given stays; another is given exactly if some reading defeats.
-use native.Mathlib.Omega.{arith}
 use borrow.Author.Needs.{needs}
 use Rattle.circuit.specs.Stored.{lent}
 use Rattle.moves.specs.Played.{played, ranksIn}
-use Rattle.below.proofs.fewer.Reads as fewer-reads
-use Rattle.moves.proofs.least_reading.Reads as least-reading-reads
-use Rattle.moves.proofs.rank_at.Reads as rank-at-reads
 use Rattle.solver.proofs.laws.RankTable.{rank-kept, rank-given, rank-none}
 use Rattle.solver.proofs.ranked.Statement.{statement}
 use Rattle.solver.proofs.ranked.Tie as tie
-use Rattle.solver.proofs.ranked.Reads as reads
-use Rattle.solver.proofs.ranked.Lts as lts
 
 rank-at-requires : tie.Need-rank-at-requires
 rank-at-requires c κs = search needs

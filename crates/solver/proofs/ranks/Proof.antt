@@ -7,9 +7,6 @@ use Rattle.solver.specs.RankTable.{rankTable}
 use Rattle.solver.proofs.laws.Solved.{any-largest}
 use Rattle.solver.proofs.ranks.Statement.{statement}
 use Rattle.solver.proofs.ranks.Tie as tie
-use Rattle.solver.proofs.ranks.Reads as reads
-use Rattle.solver.proofs.ranks_counted.Reads as ranks-counted-reads
-use Rattle.solver.proofs.ranks.Lts as lts
 
 ranks-counted-requires : tie.Need-ranks-counted-requires
 ranks-counted-requires c κs = search needs

@@ -7,13 +7,9 @@ use Rattle.circuit.specs.Circuit.{Circuit}
 use Rattle.circuit.specs.Stored.{solvable}
 use Rattle.circuit.proofs.laws.Counted.{lent-counted}
 use Rattle.game.specs.CircuitGame.{circuitGame}
-use Rattle.below.proofs.fewer.Reads as fewer-reads
 use Rattle.solver.specs.RankTable.{rankTable}
 use Rattle.solver.proofs.ranks_counted.Statement.{statement}
 use Rattle.solver.proofs.ranks_counted.Tie as tie
-use Rattle.solver.proofs.ranks_counted.Reads as reads
-use Rattle.solver.proofs.ranks_lent.Reads as ranks-lent-reads
-use Rattle.solver.proofs.ranks_counted.Lts as lts
 
 fewer-requires : tie.Need-fewer-requires
 fewer-requires c κs = search needs

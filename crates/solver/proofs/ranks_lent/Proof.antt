@@ -7,17 +7,10 @@ use lib.Pow.{pow-pos}
 use borrow.Author.Needs.{needs}
 use Rattle.circuit.specs.Stored.{lent}
 use Rattle.circuit.proofs.laws.Counts.{lent-latches, lent-controllable, lent-others}
-use Rattle.below.proofs.fewer.Reads as fewer-reads
-use Rattle.circuit.proofs.counts.controllables.Reads as controllables-reads
 use Rattle.solver.specs.RankTable.{rankTable}
 use Rattle.solver.proofs.laws.Solved.{played-solvable, many-readings-ranks, many-controls-ranks}
 use Rattle.solver.proofs.ranks_lent.Statement.{statement}
 use Rattle.solver.proofs.ranks_lent.Tie as tie
-use Rattle.solver.proofs.ranks_lent.Reads as reads
-use Rattle.solver.proofs.numbers.Reads as numbers-reads
-use Rattle.solver.proofs.rounds.Reads as rounds-reads
-use Rattle.solver.proofs.zeros.Reads as zeros-reads
-use Rattle.solver.proofs.ranks_lent.Lts as lts
 
 controllables-requires : tie.Need-controllables-requires
 controllables-requires c κs = search needs

@@ -9,9 +9,6 @@ use Rattle.circuit.specs.Stored.{meant, solvable}
 use Rattle.solver.proofs.laws.Solved.{solvable-few, realizable-at-zero}
 use Rattle.solver.proofs.realizable.Statement.{statement}
 use Rattle.solver.proofs.realizable.Tie as tie
-use Rattle.solver.proofs.realizable.Reads as reads
-use Rattle.solver.proofs.ranks.Reads as ranks-reads
-use Rattle.solver.proofs.realizable.Lts as lts
 
 ranks-requires : tie.Need-ranks-requires
 ranks-requires c κs = search needs

@@ -4,15 +4,9 @@ use native.Mathlib.Omega.{arith}
 use borrow.Author.Needs.{needs}
 use Rattle.circuit.specs.Stored.{lent}
 use Rattle.moves.specs.Played.{played, ranksIn}
-use Rattle.below.proofs.fewer.Reads as fewer-reads
-use Rattle.moves.proofs.least_control.Reads as least-control-reads
-use Rattle.moves.proofs.rank_at.Reads as rank-at-reads
 use Rattle.solver.proofs.laws.Over.{no-reply, reply-found}
 use Rattle.solver.proofs.reply_lent.Statement.{statement}
 use Rattle.solver.proofs.reply_lent.Tie as tie
-use Rattle.solver.proofs.reply_lent.Reads as reads
-use Rattle.solver.proofs.found.Reads as found-reads
-use Rattle.solver.proofs.reply_lent.Lts as lts
 
 rank-at-requires : tie.Need-rank-at-requires
 rank-at-requires c κs = search needs

@@ -1,7 +1,7 @@
 -- `solver::round` meets its contract: what is passed is as the round says, the rest as before.
-use Prim.Native.Nat.{_-_, _≤_, _^_}
+use Prim.Native.Nat.{_-_, _≤_}
 use native.Mathlib.Omega.{arith}
-use mathlib.Core.Path.{_≡_, sym, ap, _∙_}
+use mathlib.Core.Path.{_≡_, ap, _∙_}
 use lib.ListN.{length}
 use borrow.Author.Needs.{needs}
 use Rattle.below.specs.Table.{table}
@@ -12,9 +12,6 @@ use Rattle.moves.specs.Played.{played, ranksIn}
 use Rattle.solver.specs.RankTable.{roundTable}
 use Rattle.solver.proofs.round.Statement.{statement}
 use Rattle.solver.proofs.round.Tie as tie
-use Rattle.solver.proofs.round.Reads as reads
-use Rattle.solver.proofs.ranked.Reads as ranked-reads
-use Rattle.solver.proofs.round.Lts as lts
 
 abbrev Inv-loop : tie.InvT-loop
 Inv-loop input controllable latch next output gate left right readings controls states k ranks after₀ s₀ after s = Filled (roundOf (played readings controls (lent 0 input controllable latch next output gate left right)) k (ranksIn ranks)) ranks s after × (s ≤ states) × (length ranks ≡ 1024)

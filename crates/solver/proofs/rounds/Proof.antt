@@ -1,8 +1,8 @@
 -- `solver::rounds` meets its contract: the list is that after k rounds; where a round changes nothing none after it does, and as many rounds as there are states suffice.
 use Prim.Native.Nat.{_-_}
 use native.Mathlib.Omega.{arith}
-use mathlib.Core.Path.{_≡_, sym}
-use mathlib.Core.Path.{_≡_, sym, ap, _∙_}
+use mathlib.Core.Path.{_≡_}
+use mathlib.Core.Path.{_≡_}
 use lib.ListN.{length}
 use borrow.Author.Needs.{needs}
 use borrow.Author.Tests.{not-true}
@@ -13,11 +13,6 @@ use Rattle.solver.proofs.laws.RankTable.{Fair, Ranked, rounds-start, ro
 use Rattle.solver.proofs.laws.Solved.{lent-fair}
 use Rattle.solver.proofs.rounds.Statement.{statement}
 use Rattle.solver.proofs.rounds.Tie as tie
-use Rattle.solver.proofs.rounds.Reads as reads
-use Rattle.solver.proofs.changes.Reads as changes-reads
-use Rattle.solver.proofs.round.Reads as round-reads
-use Rattle.solver.proofs.zeros.Reads as zeros-reads
-use Rattle.solver.proofs.rounds.Lts as lts
 
 abbrev Inv-loop : tie.InvT-loop
 Inv-loop input controllable latch next output gate left right readings controls states ranks₀ k₀ ranks k = Ranked (played readings controls (lent 0 input controllable latch next output gate left right)) states k ranks

@@ -2,8 +2,6 @@
 use Rattle.below.proofs.laws.Filled.{replicate-table}
 use Rattle.solver.proofs.zeros.Statement.{statement}
 use Rattle.solver.proofs.zeros.Tie as tie
-use Rattle.solver.proofs.zeros.Reads as reads
-use Rattle.solver.proofs.zeros.Lts as lts
 
 returns : tie.Need-returns
 returns c = replicate-table 1024 0

@@ -4,8 +4,6 @@ use mathlib.Core.Path.{sym, ap}
 use Rattle.bits.specs.Bit.{odd}
 use Rattle.step.proofs.bit_of.Statement.{statement}
 use Rattle.step.proofs.bit_of.Tie as tie
-use Rattle.step.proofs.bit_of.Reads as reads
-use Rattle.step.proofs.bit_of.Lts as lts
 
 returns : tie.Need-returns
 unfolding odd

@@ -8,10 +8,6 @@ use Rattle.step.specs.Truths.{truths}
 use Rattle.step.specs.Value.{literalValue}
 use Rattle.step.proofs.gate_value.Statement.{statement}
 use Rattle.step.proofs.gate_value.Tie as tie
-use Rattle.step.proofs.gate_value.Reads as reads
-use Rattle.step.proofs.literal_at.Reads as literal-at-reads
-use Rattle.step.proofs.literal_value.Reads as literal-value-reads
-use Rattle.step.proofs.gate_value.Lts as lts
 
 literal-at-requires : tie.Need-literal-at-requires
 literal-at-requires c κs = search needs

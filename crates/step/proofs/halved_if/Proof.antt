@@ -5,8 +5,6 @@ use mathlib.Core.Path.{sym, ap}
 use borrow.Author.Needs.{needs}
 use Rattle.step.proofs.halved_if.Statement.{statement}
 use Rattle.step.proofs.halved_if.Tie as tie
-use Rattle.step.proofs.halved_if.Reads as reads
-use Rattle.step.proofs.halved_if.Lts as lts
 
 returns : tie.Need-returns
 returns c = let a = c .before .args in sym (ap (λ b. cond b (a .n / 2) (a .n)) (c .if1 .taken))

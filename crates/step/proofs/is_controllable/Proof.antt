@@ -6,8 +6,6 @@ use lib.ListN.{List·getD-eq-default}
 use borrow.Author.Needs.{needs}
 use Rattle.step.proofs.is_controllable.Statement.{statement}
 use Rattle.step.proofs.is_controllable.Tie as tie
-use Rattle.step.proofs.is_controllable.Reads as reads
-use Rattle.step.proofs.is_controllable.Lts as lts
 
 shared-slice-read-result : tie.Need-shared-slice-read-result
 shared-slice-read-result c = search needs

@@ -5,8 +5,6 @@ use borrow.Author.Needs.{needs}
 use Rattle.circuit.proofs.laws.StoredLiteral.{literal-small, literal-large}
 use Rattle.step.proofs.literal.Statement.{statement}
 use Rattle.step.proofs.literal.Tie as tie
-use Rattle.step.proofs.literal.Reads as reads
-use Rattle.step.proofs.literal.Lts as lts
 
 mul-if1 : tie.Need-mul-if1
 mul-if1 c = search needs

@@ -7,9 +7,6 @@ use Rattle.circuit.specs.Stored.{literalOf}
 use Rattle.circuit.proofs.laws.StoredLiteral.{literal-small}
 use Rattle.step.proofs.literal_at.Statement.{statement}
 use Rattle.step.proofs.literal_at.Tie as tie
-use Rattle.step.proofs.literal_at.Reads as reads
-use Rattle.step.proofs.literal.Reads as literal-reads
-use Rattle.step.proofs.literal_at.Lts as lts
 
 mul-literal : tie.Need-mul-literal
 mul-literal c = search needs

@@ -6,10 +6,6 @@ use Rattle.step.specs.Truths.{truths}
 use Rattle.step.proofs.laws.Value.{value-constant, value-inverted, value-plain}
 use Rattle.step.proofs.literal_value.Statement.{statement}
 use Rattle.step.proofs.literal_value.Tie as tie
-use Rattle.step.proofs.literal_value.Reads as reads
-use Rattle.step.proofs.is_odd.Reads as is-odd-reads
-use Rattle.step.proofs.truth_at.Reads as truth-at-reads
-use Rattle.step.proofs.literal_value.Lts as lts
 
 is-odd-requires : tie.Need-is-odd-requires
 is-odd-requires c κs = search needs

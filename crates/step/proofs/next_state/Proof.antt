@@ -1,5 +1,5 @@
 -- `step::next_state` meets its contract: the bits from i on add up to the state, and i counts down to 0.
-use Prim.Native.Nat.{ℕ, suc, _+_, _*_, _-_}
+use Prim.Native.Nat.{ℕ, _-_}
 use native.Mathlib.Omega.{arith}
 use mathlib.Core.Path.{_≡_, ap, _∙_, subst}
 use lib.ListN.{getD}
@@ -11,12 +11,6 @@ use Rattle.step.specs.Value.{literalValue}
 use Rattle.step.proofs.laws.Value.{Bits, nextBit, bits-start, bits-next, bits-end, bits-fit, one-if-bit}
 use Rattle.step.proofs.next_state.Statement.{statement}
 use Rattle.step.proofs.next_state.Tie as tie
-use Rattle.step.proofs.next_state.Reads as reads
-use Rattle.step.proofs.latches_of.Reads as latches-of-reads
-use Rattle.step.proofs.literal_at.Reads as literal-at-reads
-use Rattle.step.proofs.literal_value.Reads as literal-value-reads
-use Rattle.step.proofs.one_if.Reads as one-if-reads
-use Rattle.step.proofs.next_state.Lts as lts
 
 abbrev Inv-loop : tie.InvT-loop
 Inv-loop values latch next state₀ i₀ state i = Bits latch next (truths values) i state

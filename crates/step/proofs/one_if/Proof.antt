@@ -1,10 +1,8 @@
 -- `step::one_if` meets its contract by the definition of oneIf.
-use mathlib.Core.Path.{refl, sym, ap}
+use mathlib.Core.Path.{sym, ap}
 use Rattle.bits.specs.Bit.{oneIf}
 use Rattle.step.proofs.one_if.Statement.{statement}
 use Rattle.step.proofs.one_if.Tie as tie
-use Rattle.step.proofs.one_if.Reads as reads
-use Rattle.step.proofs.one_if.Lts as lts
 
 returns : tie.Need-returns
 unfolding oneIf

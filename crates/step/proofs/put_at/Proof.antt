@@ -10,10 +10,6 @@ use Rattle.circuit.proofs.laws.StoredLiteral.{variable-within}
 use Rattle.step.proofs.laws.Value.{put-set}
 use Rattle.step.proofs.put_at.Statement.{statement}
 use Rattle.step.proofs.put_at.Tie as tie
-use Rattle.step.proofs.put_at.Reads as reads
-use Rattle.step.proofs.literal_at.Reads as literal-at-reads
-use Rattle.step.proofs.one_if.Reads as one-if-reads
-use Rattle.step.proofs.put_at.Lts as lts
 
 literal-at-requires : tie.Need-literal-at-requires
 literal-at-requires c κs = search needs

@@ -10,10 +10,6 @@ use Rattle.step.specs.Value.{withGates}
 use Rattle.step.proofs.laws.Value.{Putting, put-one, gates-next, gates-end}
 use Rattle.step.proofs.put_gates.Statement.{statement}
 use Rattle.step.proofs.put_gates.Tie as tie
-use Rattle.step.proofs.put_gates.Reads as reads
-use Rattle.step.proofs.gate_value.Reads as gate-value-reads
-use Rattle.step.proofs.put_at.Reads as put-at-reads
-use Rattle.step.proofs.put_gates.Lts as lts
 
 abbrev Inv-loop : tie.InvT-loop
 Inv-loop values₀ gate left right i₀ values i = Putting (length gate) i values₀ values (withGates (gatesOf gate left right) (truths values₀)) (withGates (drop i (gatesOf gate left right)) (truths values))

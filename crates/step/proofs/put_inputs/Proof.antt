@@ -1,5 +1,5 @@
 -- `step::put_inputs` meets its contract: what is left to put, over what the bytes hold, gives the whole; each turn puts one input.
-use Prim.Native.Nat.{_-_, _+_}
+use Prim.Native.Nat.{_-_}
 use native.Mathlib.Omega.{arith}
 use mathlib.Core.Path.{refl, sym, _∙_}
 use lib.ListN.{length, drop}
@@ -10,12 +10,6 @@ use Rattle.step.specs.Value.{withInputs}
 use Rattle.step.proofs.laws.Value.{Putting, put-one, inputs-next, inputs-end}
 use Rattle.step.proofs.put_inputs.Statement.{statement}
 use Rattle.step.proofs.put_inputs.Tie as tie
-use Rattle.step.proofs.put_inputs.Reads as reads
-use Rattle.step.proofs.bit_of.Reads as bit-of-reads
-use Rattle.step.proofs.halved_if.Reads as halved-if-reads
-use Rattle.step.proofs.is_controllable.Reads as is-controllable-reads
-use Rattle.step.proofs.put_at.Reads as put-at-reads
-use Rattle.step.proofs.put_inputs.Lts as lts
 
 abbrev Inv-loop : tie.InvT-loop
 Inv-loop values₀ input controllable reading control r₀ k₀ i₀ values r k i = Putting (length input) i values₀ values (withInputs (inputsOf input controllable) reading control (truths values₀)) (withInputs (drop i (inputsOf input controllable)) r k (truths values))

@@ -1,5 +1,5 @@
 -- `step::put_latches` meets its contract: what is left to put, over what the bytes hold, gives the whole; each turn puts one latch.
-use Prim.Native.Nat.{_-_, _+_, min}
+use Prim.Native.Nat.{_-_, min}
 use native.Mathlib.Omega.{arith}
 use mathlib.Core.Path.{refl, sym, _∙_}
 use lib.ListN.{length, drop}
@@ -11,11 +11,6 @@ use Rattle.step.specs.Value.{withLatches}
 use Rattle.step.proofs.laws.Value.{Putting, put-one, latches-next, latches-end}
 use Rattle.step.proofs.put_latches.Statement.{statement}
 use Rattle.step.proofs.put_latches.Tie as tie
-use Rattle.step.proofs.put_latches.Reads as reads
-use Rattle.step.proofs.is_odd.Reads as is-odd-reads
-use Rattle.step.proofs.latches_of.Reads as latches-of-reads
-use Rattle.step.proofs.put_at.Reads as put-at-reads
-use Rattle.step.proofs.put_latches.Lts as lts
 
 abbrev Inv-loop : tie.InvT-loop
 Inv-loop values₀ latch next state n s₀ i₀ values s i = Putting (min (length latch) (base .latches)) i values₀ values (withLatches (latchesOf latch next) state (truths values₀)) (withLatches (drop i (latchesOf latch next)) s (truths values))

@@ -6,9 +6,6 @@ use Rattle.circuit.specs.Stored.{meant}
 use Rattle.step.proofs.laws.Step.{largest-not-read}
 use Rattle.step.proofs.step.Statement.{statement}
 use Rattle.step.proofs.step.Tie as tie
-use Rattle.step.proofs.step.Reads as reads
-use Rattle.step.proofs.step_counted.Reads as step-counted-reads
-use Rattle.step.proofs.step.Lts as lts
 
 step-counted-requires : tie.Need-step-counted-requires
 step-counted-requires c κs = search needs

@@ -5,13 +5,9 @@ use lib.ListN.{length-take}
 use borrow.Author.Needs.{needs}
 use Rattle.circuit.specs.Circuit.{Circuit}
 use Rattle.circuit.proofs.laws.Counted.{lent-counted}
-use Rattle.below.proofs.fewer.Reads as fewer-reads
 use Rattle.step.specs.Step.{step as stepOf}
 use Rattle.step.proofs.step_counted.Statement.{statement}
 use Rattle.step.proofs.step_counted.Tie as tie
-use Rattle.step.proofs.step_counted.Reads as reads
-use Rattle.step.proofs.step_lent.Reads as step-lent-reads
-use Rattle.step.proofs.step_counted.Lts as lts
 
 fewer-requires : tie.Need-fewer-requires
 fewer-requires c κs = search needs

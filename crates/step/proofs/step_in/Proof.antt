@@ -6,14 +6,6 @@ use Rattle.step.specs.Value.{literalValue}
 use Rattle.step.proofs.laws.Step.{values-put, step-is}
 use Rattle.step.proofs.step_in.Statement.{statement}
 use Rattle.step.proofs.step_in.Tie as tie
-use Rattle.step.proofs.step_in.Reads as reads
-use Rattle.step.proofs.literal.Reads as literal-reads
-use Rattle.step.proofs.literal_value.Reads as literal-value-reads
-use Rattle.step.proofs.next_state.Reads as next-state-reads
-use Rattle.step.proofs.put_gates.Reads as put-gates-reads
-use Rattle.step.proofs.put_inputs.Reads as put-inputs-reads
-use Rattle.step.proofs.put_latches.Reads as put-latches-reads
-use Rattle.step.proofs.step_in.Lts as lts
 
 put-inputs-requires : tie.Need-put-inputs-requires
 put-inputs-requires c κs = search needs

@@ -4,9 +4,6 @@ use borrow.Author.Needs.{needs}
 use Rattle.step.proofs.laws.Value.{zeros-false}
 use Rattle.step.proofs.step_lent.Statement.{statement}
 use Rattle.step.proofs.step_lent.Tie as tie
-use Rattle.step.proofs.step_lent.Reads as reads
-use Rattle.step.proofs.step_in.Reads as step-in-reads
-use Rattle.step.proofs.step_lent.Lts as lts
 
 slice-aggregate-step-in : tie.Need-slice-aggregate-step-in
 slice-aggregate-step-in c = search needs

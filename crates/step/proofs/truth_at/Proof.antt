@@ -6,8 +6,6 @@ use borrow.Author.Needs.{needs}
 use Rattle.step.specs.Truths.{truths}
 use Rattle.step.proofs.truth_at.Statement.{statement}
 use Rattle.step.proofs.truth_at.Tie as tie
-use Rattle.step.proofs.truth_at.Reads as reads
-use Rattle.step.proofs.truth_at.Lts as lts
 
 shared-slice-read-result : tie.Need-shared-slice-read-result
 shared-slice-read-result c = search needs

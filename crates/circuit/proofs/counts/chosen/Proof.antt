@@ -8,8 +8,6 @@ use borrow.Author.Needs.{needs}
 use Rattle.bits.specs.Bit.{oneIf}
 use Rattle.circuit.proofs.counts.chosen.Statement.{statement}
 use Rattle.circuit.proofs.counts.chosen.Tie as tie
-use Rattle.circuit.proofs.counts.chosen.Reads as reads
-use Rattle.circuit.proofs.counts.chosen.Lts as lts
 
 shared-slice-read-if2 : tie.Need-shared-slice-read-if2
 shared-slice-read-if2 c = search needs

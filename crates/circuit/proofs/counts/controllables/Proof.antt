@@ -8,9 +8,6 @@ use borrow.Author.Needs.{needs}
 use Rattle.circuit.proofs.laws.Counts.{Counted, count-start, count-next, count-end, one-if-most}
 use Rattle.circuit.proofs.counts.controllables.Statement.{statement}
 use Rattle.circuit.proofs.counts.controllables.Tie as tie
-use Rattle.circuit.proofs.counts.controllables.Reads as reads
-use Rattle.circuit.proofs.counts.chosen.Reads as chosen-reads
-use Rattle.circuit.proofs.counts.controllables.Lts as lts
 
 abbrev Inv-loop : tie.InvT-loop
 Inv-loop input controllable n₀ i₀ n i = Counted input controllable i n
