@@ -8,7 +8,8 @@ use Rattle.bits.specs.Bit.{oneIf}
 use Rattle.circuit.specs.Stored.{literalOf}
 use Rattle.step.specs.Truths.{truths}
 use Rattle.step.specs.Value.{literalValue}
-use Rattle.step.proofs.laws.Value.{Bits, nextBit, bits-start, bits-next, bits-end, bits-fit, one-if-bit}
+use Rattle.step.proofs.laws.NextIn.{Bits, nextBit, bits-start, bits-next, bits-end, bits-fit}
+use Rattle.step.proofs.laws.Truths.{one-if-bit}
 use Rattle.step.proofs.next_state.Statement.{statement}
 use Rattle.step.proofs.next_state.Tie as tie
 

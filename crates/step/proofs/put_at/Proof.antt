@@ -7,7 +7,7 @@ use borrow.Author.Needs.{needs}
 use Rattle.circuit.specs.Literal.{variable}
 use Rattle.circuit.specs.Stored.{literalOf}
 use Rattle.circuit.proofs.laws.StoredLiteral.{variable-within}
-use Rattle.step.proofs.laws.Value.{put-set}
+use Rattle.step.proofs.laws.Truths.{put-set}
 use Rattle.step.proofs.put_at.Statement.{statement}
 use Rattle.step.proofs.put_at.Tie as tie
 

@@ -1,7 +1,7 @@
 -- `step::step_lent` meets its contract: the step over bytes that hold no truth yet.
 use native.Mathlib.Omega.{arith}
 use borrow.Author.Needs.{needs}
-use Rattle.step.proofs.laws.Value.{zeros-false}
+use Rattle.step.proofs.laws.Truths.{zeros-false}
 use Rattle.step.proofs.step_lent.Statement.{statement}
 use Rattle.step.proofs.step_lent.Tie as tie
 
