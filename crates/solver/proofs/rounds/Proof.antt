@@ -2,14 +2,12 @@
 use Prim.Native.Nat.{_-_}
 use native.Mathlib.Omega.{arith}
 use mathlib.Core.Path.{_≡_}
-use mathlib.Core.Path.{_≡_}
 use lib.ListN.{length}
 use borrow.Author.Needs.{needs}
 use borrow.Author.Tests.{not-true}
 use Rattle.circuit.specs.Stored.{lent}
 use Rattle.moves.specs.Played.{played}
 use Rattle.solver.proofs.laws.RankTable.{Fair, Ranked, rounds-start, rounds-next, rounds-stop, rounds-end, ranked-long, round-long}
-use Rattle.solver.proofs.laws.RankTable.{Fair, Ranked, rounds-start, rounds-next, rounds-stop, rounds-end, ranked-long}
 use Rattle.solver.proofs.laws.Solved.{lent-fair}
 use Rattle.solver.proofs.rounds.Statement.{statement}
 use Rattle.solver.proofs.rounds.Tie as tie
