@@ -2,3 +2,6 @@ pub mod Least
 pub mod Table
 pub mod Count
 pub mod Among
+pub mod Take
+pub mod Passed
+pub mod Filled

@@ -4,3 +4,4 @@ pub mod ByteBit
 pub mod Bytes
 pub mod Wrote
 pub mod InTurn
+pub mod Halves

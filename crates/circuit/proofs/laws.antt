@@ -1,3 +1,6 @@
 pub mod SameCircuit
 pub mod LiteralOf
 pub mod Answer
+pub mod StoredLiteral
+pub mod Counted
+pub mod Counts

@@ -1,2 +1,5 @@
 pub mod Alarms
+pub mod Truths
+pub mod Value
+pub mod NextIn
 pub mod Step

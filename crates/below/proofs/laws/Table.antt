@@ -3,10 +3,10 @@ use Prim.Native.Nat.{ℕ, zero, suc, _+_, _<_, _≤_}
 use native.Mathlib.Omega.{arith}
 use native.Mathlib.Nat.{not-suc-le-zero, add-zero}
 use native.Mathlib.Decide.{decLt}
-use mathlib.Core.List.{List, [], _∷_, _++_, map}
+use mathlib.Core.List.{List, [], _∷_, _++_, map, map-append}
 use mathlib.Core.Path.{_≡_, refl, sym, ap, ap₂, _∙_}
-use lib.ListN.{length, getD, length-append, List·getD-append, List·getD-eq-default}
-use lib.Seq.{getD-at, ext-getD}
+use lib.ListN.{length, getD, drop, length-append, drop-of-length-le, List·getD-append, List·getD-eq-default}
+use lib.Seq.{getD-at, drop-cons, ext-getD}
 use Rattle.below.specs.Table.{table}
 
 module _ {ℓ} {A : Type ℓ} where
@@ -36,12 +36,14 @@ module _ {ℓ} {A : Type ℓ} where
   pub table-getD : (l : List A) (d : A) → table (λ i. getD l i d) (length l) ≡ l
   table-getD l d = ext-getD d (table (λ i. getD l i d) (length l)) l (length-table (λ i. getD l i d) (length l)) (λ i h. getD-table (λ j. getD l j d) (length l) i d (omega (arith, length-table (λ j. getD l j d) (length l))))
 
-module _ {ℓ κ} {A : Type ℓ} {B : Type κ} (f : A → B) where
-  pub map-append : (l k : List A) → map f (l ++ k) ≡ map f l ++ map f k
-  map-append [] k = refl
-  map-append (x ∷ l) k = ap {B = List B} (λ m. f x ∷ m) (map-append l k)
+  -- what is left of a table at a place: what stands there, and what is left behind it
+  pub drop-table : (f : ℕ → A) (n i : ℕ) → i < n → drop i (table f n) ≡ f i ∷ drop (suc i) (table f n)
+  drop-table f n i h = drop-cons (table f n) i (f i) (omega (arith, length-table f n)) ∙ ap (λ (a : A). a ∷ drop (suc i) (table f n)) (getD-table f n i (f i) h)
 
-  pub map-table : (g : ℕ → A) (n : ℕ) → map f (table g n) ≡ table (λ i. f (g i)) n
-  unfolding table
-  map-table g zero = refl
-  map-table g (suc n) = map-append (table g n) (g n ∷ []) ∙ ap {B = List B} (λ l. l ++ (f (g n) ∷ [])) (map-table g n)
+  pub drop-table-all : (f : ℕ → A) (n i : ℕ) → n ≤ i → drop i (table f n) ≡ []
+  drop-table-all f n i h = drop-of-length-le (table f n) {i = i} (omega (arith, length-table f n))
+
+pub map-table {ℓ κ} : {A : Type ℓ} {B : Type κ} (g : A → B) (f : ℕ → A) (n : ℕ) → map g (table f n) ≡ table (λ i. g (f i)) n
+unfolding table
+map-table g f zero = refl
+map-table {B = B} g f (suc n) = map-append g (table f n) (f n ∷ []) ∙ ap (λ (l : List B). l ++ (g (f n) ∷ [])) (map-table g f n)

@@ -1,0 +1,4 @@
+pub mod RankTable
+pub mod Over
+pub mod Solved
+pub mod Solution

@@ -1,0 +1,160 @@
+-- The games that the solver plays: over lent lists a fair one, that of a circuit that isn't too large, and that of the empty circuit.
+-- Assumes nothing.
+use Prim.Native.Nat.{ℕ, zero, suc, _^_, min, _<_, _≤_}
+use native.Mathlib.Omega.{arith}
+use native.Mathlib.Decide.{decLt}
+use mathlib.Core.Bool.{Bool, true, false, cond, not, _||_, true≢false}
+use mathlib.Core.List.{List}
+use mathlib.Core.Path.{_≡_, refl, sym, ap, _∙_}
+use lib.Dec.{ltb, eqb}
+use lib.ListN.{getD}
+use lib.Pow.{pow-mono, pow-pos}
+use borrow.Author.Tests.{lt-ltb, le-ltb, eq-eqb, ne-eqb}
+use Rattle.below.specs.Least.{least, any, every}
+use Rattle.below.specs.Table.{table}
+use Rattle.below.proofs.laws.Least.{every-at, every-of}
+use Rattle.below.proofs.laws.Table.{table-same}
+use Rattle.bits.specs.Bit.{odd, oneIf}
+use Rattle.bits.specs.Digits.{sum}
+use Rattle.circuit.specs.Circuit.{Circuit, inputsThat, latchCount, uncontrollableCount, controllableCount, tooMany}
+use Rattle.circuit.specs.Limits.{base}
+use Rattle.circuit.specs.Literal.{variable, inverted, constant}
+use Rattle.circuit.specs.Reset.{isReset}
+use Rattle.circuit.specs.Stored.{lent, solvable, emptyCircuit}
+use Rattle.circuit.proofs.laws.Counts.{lent-latches}
+use Rattle.game.specs.CircuitGame.{circuitGame, isRealizable}
+use Rattle.game.specs.Game.{Proper}
+use Rattle.game.specs.Keeps.{keeps, answered, safe}
+use Rattle.game.specs.Rank.{notRanked, defeated, round, ranksAfter, rank, inRegion}
+use Rattle.game.specs.Verdict.{realizable}
+use Rattle.moves.specs.Played.{played, ranksIn}
+use Rattle.step.specs.Step.{step, errorOf, nextOf}
+use Rattle.step.specs.Value.{literalValue, put, withInputs, withLatches, withGates, valuation}
+use Rattle.step.proofs.laws.Step.{next-below, largest-not-read}
+use Rattle.solver.specs.RankTable.{rankTable}
+use Rattle.solver.proofs.laws.RankTable.{Fair, rank-in-table}
+
+empty-states : (circuitGame emptyCircuit) .states ≡ 1
+unfolding circuitGame latchCount emptyCircuit
+empty-states = refl
+
+-- the empty circuit has one state, of rank 0
+empty-zero : rank (circuitGame emptyCircuit) 0 ≡ 0
+unfolding rank ranksAfter round defeated safe every any least answered keeps notRanked circuitGame emptyCircuit latchCount uncontrollableCount controllableCount inputsThat step errorOf nextOf valuation withInputs withLatches withGates put literalValue constant inverted variable odd sum oneIf
+empty-zero = refl
+
+empty-few : 2 ^ latchCount emptyCircuit ≤ 2 ^ base .latches
+unfolding latchCount emptyCircuit
+empty-few = omega arith
+
+empty-ranks : table (λ s. 0) (2 ^ base .latches) ≡ rankTable (circuitGame emptyCircuit)
+unfolding rankTable
+empty-ranks = table-same _ _ (2 ^ base .latches) (λ s h. at s)
+  where
+    zero-rank : (s : ℕ) → s ≡ 0 → _≡_ {A = ℕ} 0 (rank (circuitGame emptyCircuit) s)
+    zero-rank s e = rw e (sym empty-zero)
+
+    at : (s : ℕ) → _≡_ {A = ℕ} 0 (cond (ltb s ((circuitGame emptyCircuit) .states)) (rank (circuitGame emptyCircuit) s) 0)
+    at s = elim (decLt s 1) [ yes h ↦ rw (lt-ltb s ((circuitGame emptyCircuit) .states) (omega (arith, empty-states))) (zero-rank s (omega arith)) | no h ↦ rw (le-ltb s ((circuitGame emptyCircuit) .states) (omega (arith, empty-states))) ]
+
+whole-game : (c : Circuit) (readings controls : ℕ) → min readings (2 ^ base .uncontrollable) ≡ 2 ^ uncontrollableCount c → min controls (2 ^ base .controllable) ≡ 2 ^ controllableCount c → played readings controls c ≡ circuitGame c
+unfolding played circuitGame
+whole-game c readings controls e f = λ x. record { states = 2 ^ latchCount c; readings = e x; controls = f x; step = step c }
+
+module _ (largest other : ℕ) (input controllable latch next : List ℕ) (output : ℕ) (gate left right : List ℕ) where
+  many-any-largest : tooMany base (lent largest input controllable latch next output gate left right) ≡ tooMany base (lent other input controllable latch next output gate left right)
+  unfolding tooMany uncontrollableCount controllableCount lent
+  many-any-largest = refl
+
+  game-any-largest : circuitGame (lent largest input controllable latch next output gate left right) ≡ circuitGame (lent other input controllable latch next output gate left right)
+  unfolding circuitGame latchCount uncontrollableCount controllableCount lent
+  game-any-largest = λ x. record { states = 2 ^ latchCount (lent largest input controllable latch next output gate left right); readings = 2 ^ uncontrollableCount (lent largest input controllable latch next output gate left right); controls = 2 ^ controllableCount (lent largest input controllable latch next output gate left right); step = λ s r k. largest-not-read input controllable latch next output gate left right largest other s r k x }
+
+some-state : (c : Circuit) → 0 < (circuitGame c) .states
+unfolding circuitGame
+some-state c = pow-pos (latchCount c)
+
+zero-or-not : (n : ℕ) → eqb n 0 ≡ not (ltb 0 n)
+zero-or-not n = elim (decLt 0 n) [ yes h ↦ ne-eqb n 0 (λ e. omega arith) ∙ sym (ap not (lt-ltb 0 n h)) | no h ↦ eq-eqb n 0 (omega arith) ∙ sym (ap not (le-ltb 0 n (omega arith))) ]
+
+-- each number that is 0 is in a set exactly if 0 is
+zero-alone : (set : ℕ → Bool) (n : ℕ) → 0 < n → every (λ s. not (eqb s 0) || set s) n ≡ set 0
+zero-alone set n h = by (set 0) (every (λ s. not (eqb s 0) || set s) n) refl refl
+  where
+    at : set 0 ≡ true → (s : ℕ) → (not (eqb s 0) || set s) ≡ true
+    at e zero = e
+    at e (suc s) = rw (ne-eqb (suc s) 0 (λ q. omega arith))
+
+    by : (a b : Bool) → set 0 ≡ a → every (λ s. not (eqb s 0) || set s) n ≡ b → every (λ s. not (eqb s 0) || set s) n ≡ set 0
+    by true b e f = every-of (λ s. not (eqb s 0) || set s) n (λ s l. at e s) ∙ sym e
+    by false true e f = f ∙ sym (every-at (λ s. not (eqb s 0) || set s) n 0 f h)
+    by false false e f = f ∙ sym e
+
+played-proper : (readings controls : ℕ) (c : Circuit) → 0 < controls → Proper (played readings controls c)
+unfolding played step
+played-proper readings controls c h = record { leads = λ s r k. next-below c s r k; choice = omega arith }
+
+module _ (largest : ℕ) (input controllable latch next : List ℕ) (output : ℕ) (gate left right : List ℕ) where
+  few-states : 2 ^ latchCount (lent largest input controllable latch next output gate left right) ≤ 2 ^ base .latches
+  few-states = pow-mono {i = latchCount (lent largest input controllable latch next output gate left right)} {j = base .latches} (omega (arith, lent-latches largest input controllable latch next output gate left right))
+
+  pub lent-fair : (readings controls states : ℕ) → 0 < controls → states ≡ 2 ^ latchCount (lent largest input controllable latch next output gate left right) → Fair (played readings controls (lent largest input controllable latch next output gate left right)) states
+  unfolding played
+  lent-fair readings controls states h e = record { proper = played-proper readings controls (lent largest input controllable latch next output gate left right) h; few = few-states; all = e }
+
+  -- the largest variable doesn't matter
+  pub any-largest : (other : ℕ) → circuitGame (solvable (lent largest input controllable latch next output gate left right)) ≡ circuitGame (solvable (lent other input controllable latch next output gate left right))
+  unfolding solvable
+  any-largest other = by (tooMany base (lent largest input controllable latch next output gate left right)) (tooMany base (lent other input controllable latch next output gate left right)) same
+    where
+      same : tooMany base (lent largest input controllable latch next output gate left right) ≡ tooMany base (lent other input controllable latch next output gate left right)
+      same = many-any-largest largest other input controllable latch next output gate left right
+
+      by : (a b : Bool) → a ≡ b → circuitGame (cond a emptyCircuit (lent largest input controllable latch next output gate left right)) ≡ circuitGame (cond b emptyCircuit (lent other input controllable latch next output gate left right))
+      by true true e = refl
+      by true false e = absurd (true≢false e)
+      by false true e = absurd (true≢false (sym e))
+      by false false e = game-any-largest largest other input controllable latch next output gate left right
+
+  pub solvable-few : (circuitGame (solvable (lent largest input controllable latch next output gate left right))) .states ≤ 2 ^ base .latches
+  unfolding solvable circuitGame
+  solvable-few = by (tooMany base (lent largest input controllable latch next output gate left right))
+    where
+      by : (b : Bool) → 2 ^ latchCount (cond b emptyCircuit (lent largest input controllable latch next output gate left right)) ≤ 2 ^ base .latches
+      by true = empty-few
+      by false = few-states
+
+module _ (c : Circuit) where
+  pub small-solvable : uncontrollableCount c ≤ base .uncontrollable → controllableCount c ≤ base .controllable → solvable c ≡ c
+  unfolding solvable tooMany
+  small-solvable h l = rw (le-ltb (base .uncontrollable) (uncontrollableCount c) h, le-ltb (base .controllable) (controllableCount c) l)
+
+  -- so many readings and controls as the circuit has: its own game
+  pub played-solvable : (u w readings controls : ℕ) → u ≡ uncontrollableCount c → w ≡ controllableCount c → u ≤ base .uncontrollable → w ≤ base .controllable → readings ≡ 2 ^ u → controls ≡ 2 ^ w → played readings controls c ≡ circuitGame (solvable c)
+  played-solvable u w readings controls e f h l p q = whole ∙ sym (ap circuitGame (small-solvable (omega arith) (omega arith)))
+    where
+      all-readings : min readings (2 ^ base .uncontrollable) ≡ 2 ^ uncontrollableCount c
+      all-readings = omega (arith, p, ap (λ (n : ℕ). 2 ^ n) e, pow-mono {i = u} {j = base .uncontrollable} h)
+
+      all-controls : min controls (2 ^ base .controllable) ≡ 2 ^ controllableCount c
+      all-controls = omega (arith, q, ap (λ (n : ℕ). 2 ^ n) f, pow-mono {i = w} {j = base .controllable} l)
+
+      whole : played readings controls c ≡ circuitGame c
+      whole = whole-game c readings controls all-readings all-controls
+
+  pub many-readings-ranks : base .uncontrollable < uncontrollableCount c → table (λ s. 0) (2 ^ base .latches) ≡ rankTable (circuitGame (solvable c))
+  unfolding solvable tooMany
+  many-readings-ranks h = rw (lt-ltb (base .uncontrollable) (uncontrollableCount c) h) empty-ranks
+
+  pub many-controls-ranks : base .controllable < controllableCount c → table (λ s. 0) (2 ^ base .latches) ≡ rankTable (circuitGame (solvable c))
+  unfolding solvable tooMany
+  many-controls-ranks h = rw (lt-ltb (base .controllable) (controllableCount c) h) (by (ltb (base .uncontrollable) (uncontrollableCount c)))
+    where
+      by : (b : Bool) → table (λ s. 0) (2 ^ base .latches) ≡ rankTable (circuitGame (cond (b || true) emptyCircuit c))
+      by true = empty-ranks
+      by false = empty-ranks
+
+-- the only reset state is 0
+pub realizable-at-zero : (c : Circuit) → (circuitGame c) .states ≤ 2 ^ base .latches → eqb (getD (rankTable (circuitGame c)) 0 0) 0 ≡ isRealizable c
+unfolding isRealizable realizable isReset ranksIn inRegion
+realizable-at-zero c few = ap (λ (n : ℕ). eqb n 0) (rank-in-table (circuitGame c) few 0 (some-state c)) ∙ zero-or-not (rank (circuitGame c) 0) ∙ sym (zero-alone (inRegion (circuitGame c)) ((circuitGame c) .states) (some-state c))

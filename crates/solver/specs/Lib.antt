@@ -1,0 +1,2 @@
+pub mod RankTable
+pub mod Over
