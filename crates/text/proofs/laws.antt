@@ -9,6 +9,7 @@ pub mod PositionSymbol
 pub mod SymbolHere
 pub mod SymbolLoop
 pub mod BodyLoop
+pub mod LinesLoop
 pub mod Outcome
 pub mod Lists
 pub mod Run
