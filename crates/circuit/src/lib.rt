@@ -35,7 +35,7 @@ impl Circuit {
 
     pub const OUTPUTS: usize = 1;
 
-    // How many states, readings and controls there can be, and replies and variables, the constant among them.
+    // How many states, readings and controls there can be, and replies, variables with the constant among them, and positions that a symbol can name.
     pub const STATES: usize = 1 << Circuit::LATCHES;
 
     pub const READINGS: usize = 1 << Circuit::UNCONTROLLABLE;
@@ -45,6 +45,7 @@ impl Circuit {
     pub const REPLIES: usize = Circuit::STATES * Circuit::READINGS;
 
     pub const VALUES: usize = Circuit::VARIABLES + 1;
+    pub const NAMES: usize = Circuit::INPUTS + Circuit::LATCHES + Circuit::OUTPUTS;
 }
 
 // A refusal (01, "The numbers").

@@ -10,6 +10,7 @@ pub mod SymbolHere
 pub mod SymbolLoop
 pub mod BodyLoop
 pub mod LinesLoop
+pub mod TextLoop
 pub mod Outcome
 pub mod Lists
 pub mod Run

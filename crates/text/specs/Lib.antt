@@ -17,6 +17,7 @@ pub mod SymboledAs
 pub mod SymbolsAs
 pub mod TextFile
 pub mod Read
+pub mod TextAt
 pub mod Written
 pub mod InList
 pub mod WellFormed

@@ -4,4 +4,5 @@ mod fields;
 mod judge;
 mod line;
 mod number;
+mod read;
 mod symbols;
