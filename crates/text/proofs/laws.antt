@@ -11,6 +11,7 @@ pub mod SymbolLoop
 pub mod BodyLoop
 pub mod LinesLoop
 pub mod TextLoop
+pub mod ReadLoop
 pub mod Outcome
 pub mod Lists
 pub mod Run

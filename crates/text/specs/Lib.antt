@@ -18,6 +18,7 @@ pub mod SymbolsAs
 pub mod TextFile
 pub mod Read
 pub mod TextAt
+pub mod CountedAs
 pub mod Written
 pub mod InList
 pub mod WellFormed

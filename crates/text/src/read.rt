@@ -1,13 +1,17 @@
 // Reading a file (01, "The numbers"): a circuit, or number and place.
-use circuit::Circuit;
+use circuit::counts::controllables;
+use circuit::{Circuit, FileRead, Read, Refusal};
 use crate::body::{body_lines, Bodied, Sectioned};
 use crate::symbols::symbol_lines;
-ghost use Prim.Native.Nat.{_+_};
+ghost use Prim.Native.Nat.{_+_, _≤_};
 ghost use mathlib.Core.Path.{_≡_};
 ghost use lib.ListN.{length};
 ghost use Rattle.below.specs.Table.{table};
+ghost use Rattle.circuit.specs.Circuit.{tooMany};
 ghost use Rattle.circuit.specs.Limits.{base};
+ghost use Rattle.circuit.specs.Stored.{stored, emptyCircuit, inputsOf};
 ghost use Rattle.text.specs.BodyRead.{headerWith};
+ghost use Rattle.text.specs.CountedAs.{withInputs, CountedAs};
 ghost use Rattle.text.specs.TextAt.{NameRoom, NamedAs, TextRoom, TextAs};
 
 // Nothing is marked: a byte for each variable, and one for each position that a symbol can name.
@@ -63,5 +67,84 @@ fn text_lines(
     match body_lines(s, from, m, &mut defined, input, latch, next, gate, left, right) {
         Bodied::Refused(r) => Bodied::Refused(r),
         Bodied::Lines(at, output) => name_lines(s, at, output, gate.len(), latch.len(), input.len(), flags),
+    }
+}
+
+fn no_inputs() -> [u16; Circuit::INPUTS]
+    ensures { λ r. ⌜ r ≡ table (λ i. 0) (base .inputs) ⌝ }
+{
+    [0u16; Circuit::INPUTS]
+}
+
+fn no_flags() -> [u8; Circuit::INPUTS]
+    ensures { λ r. ⌜ r ≡ table (λ i. 0) (base .inputs) ⌝ }
+{
+    [0u8; Circuit::INPUTS]
+}
+
+fn no_latches() -> [u16; Circuit::LATCHES]
+    ensures { λ r. ⌜ r ≡ table (λ i. 0) (base .latches) ⌝ }
+{
+    [0u16; Circuit::LATCHES]
+}
+
+fn no_gates() -> [u16; Circuit::VARIABLES]
+    ensures { λ r. ⌜ r ≡ table (λ i. 0) (base .variable) ⌝ }
+{
+    [0u16; Circuit::VARIABLES]
+}
+
+// The empty circuit, beside a refusal.
+fn refused(number: u8, place: usize) -> FileRead
+    ensures { λ r. ⌜ r ≡ record { answer = Read.Refused (record { number = number; place = place }); circuit = stored emptyCircuit } ⌝ }
+{
+    let input = no_inputs();
+    let controllable = no_flags();
+    let latch = no_latches();
+    let gate = no_gates();
+    let circuit = Circuit {
+        largest: 0,
+        inputs: 0,
+        latches: 0,
+        gates: 0,
+        input,
+        controllable,
+        latch,
+        next: latch,
+        output: 0,
+        gate,
+        left: gate,
+        right: gate,
+    };
+    FileRead {
+        answer: Read::Refused(Refusal { number, place }),
+        circuit,
+    }
+}
+
+// More than 5 uncontrollable or 8 controllable inputs.
+fn too_many<'a>(input: &'a [u16], flags: &'a [u8]) -> bool
+    ensures { λ r. ⌜ r ≡ tooMany base (withInputs (inputsOf (now (input .entry)) (now (flags .entry)))) ⌝ }
+{
+    let n = controllables(input, flags);
+    if Circuit::CONTROLLABLE < n {
+        return true;
+    }
+    Circuit::UNCONTROLLABLE < input.len() - n
+}
+
+// A circuit that was read, if it hasn't too many inputs of a sort.
+fn counted(circuit: Circuit, inputs: usize) -> FileRead
+    requires { ⌜ inputs ≤ base .inputs ⌝ }
+    ensures { λ r. ⌜ CountedAs circuit inputs r ⌝ }
+{
+    let input = circuit.input;
+    let flags = circuit.controllable;
+    if too_many(&input[..inputs], &flags[..inputs]) {
+        return refused(9, 0);
+    }
+    FileRead {
+        answer: Read::Taken,
+        circuit,
     }
 }
