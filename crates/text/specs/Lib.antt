@@ -19,6 +19,7 @@ pub mod TextFile
 pub mod Read
 pub mod TextAt
 pub mod CountedAs
+pub mod LinesAs
 pub mod Written
 pub mod InList
 pub mod WellFormed

@@ -2,16 +2,24 @@
 use circuit::counts::controllables;
 use circuit::{Circuit, FileRead, Read, Refusal};
 use crate::body::{body_lines, Bodied, Sectioned};
-use crate::symbols::symbol_lines;
+use crate::fields::{five_at, Row};
+use crate::line::line_end;
+use crate::symbols::{starts_with, symbol_lines};
 ghost use Prim.Native.Nat.{_+_, _≤_};
+ghost use mathlib.Core.List.{[], _∷_};
 ghost use mathlib.Core.Path.{_≡_};
 ghost use lib.ListN.{length};
 ghost use Rattle.below.specs.Table.{table};
+ghost use Rattle.circuit.specs.Answer.{ReadAs};
 ghost use Rattle.circuit.specs.Circuit.{tooMany};
 ghost use Rattle.circuit.specs.Limits.{base};
 ghost use Rattle.circuit.specs.Stored.{stored, emptyCircuit, inputsOf};
 ghost use Rattle.text.specs.BodyRead.{headerWith};
 ghost use Rattle.text.specs.CountedAs.{withInputs, CountedAs};
+ghost use Rattle.text.specs.Header.{withinLimits, headerOf};
+ghost use Rattle.text.specs.LinesAs.{LinesRoom, LinesAs, HeaderAs};
+ghost use Rattle.text.specs.Read.{circuitRead};
+ghost use Rattle.text.specs.RowAt.{Small};
 ghost use Rattle.text.specs.TextAt.{NameRoom, NamedAs, TextRoom, TextAs};
 
 // Nothing is marked: a byte for each variable, and one for each position that a symbol can name.
@@ -147,4 +155,96 @@ fn counted(circuit: Circuit, inputs: usize) -> FileRead
         answer: Read::Taken,
         circuit,
     }
+}
+
+// The lines behind a header within the limits, and the circuit that they make.
+fn read_lines(s: &[u8], from: usize, m: u16, inputs: usize, latches: usize, gates: usize) -> FileRead
+    requires { ⌜ LinesRoom (now s) from m inputs latches gates ⌝ }
+    ensures { λ r. ⌜ LinesAs (headerWith m inputs latches gates) (now (s .entry)) from r ⌝ }
+{
+    let mut input = no_inputs();
+    let mut flags = no_flags();
+    let mut latch = no_latches();
+    let mut next = no_latches();
+    let mut gate = no_gates();
+    let mut left = no_gates();
+    let mut right = no_gates();
+    match text_lines(
+        s,
+        from,
+        m,
+        &mut input[..inputs],
+        &mut flags[..inputs],
+        &mut latch[..latches],
+        &mut next[..latches],
+        &mut gate[..gates],
+        &mut left[..gates],
+        &mut right[..gates],
+    ) {
+        Bodied::Refused(r) => refused(r.number, r.place),
+        Bodied::Lines(_, output) => counted(
+            Circuit {
+                largest: m,
+                inputs,
+                latches,
+                gates,
+                input,
+                controllable: flags,
+                latch,
+                next,
+                output,
+                gate,
+                left,
+                right,
+            },
+            inputs,
+        ),
+    }
+}
+
+// `aag` and five numbers.
+fn header_line(line: &[u8]) -> Row
+    ensures { λ r. ⌜ HeaderAs (now (line .entry)) r ⌝ }
+{
+    if starts_with(b"aag ", line, 0) {
+        return five_at(line, 4);
+    }
+    Row::Bad
+}
+
+// Whether the header's numbers keep the limits.
+fn within(m: u32, inputs: u32, latches: u32, outputs: u32, gates: u32) -> bool
+    requires { ⌜ Small m inputs latches outputs gates ⌝ }
+    ensures { λ r. ⌜ r ≡ withinLimits base (headerOf (m ∷ inputs ∷ latches ∷ outputs ∷ gates ∷ [])) ⌝ }
+{
+    if Circuit::VARIABLES < m as usize {
+        return false;
+    }
+    if Circuit::INPUTS < inputs as usize {
+        return false;
+    }
+    if Circuit::LATCHES < latches as usize {
+        return false;
+    }
+    if outputs as usize != Circuit::OUTPUTS {
+        return false;
+    }
+    inputs + latches + gates <= m
+}
+
+// Reads a file of any content: the circuit that its text means, or the number and the place that its faults call for.
+pub fn read(file: &[u8]) -> FileRead
+    ensures { λ r. ⌜ ReadAs (circuitRead base (now (file .entry))) r ⌝ }
+{
+    if Circuit::FILE < file.len() {
+        return refused(1, 0);
+    }
+    let end = line_end(file, 0);
+    let Row::Of(m, inputs, latches, outputs, gates) = header_line(&file[..end]) else {
+        return refused(2, 1);
+    };
+    if within(m, inputs, latches, outputs, gates) {
+        return read_lines(file, end, m as u16, inputs as usize, latches as usize, gates as usize);
+    }
+    refused(3, 1)
 }
