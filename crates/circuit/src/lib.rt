@@ -45,6 +45,7 @@ impl Circuit {
     pub const REPLIES: usize = Circuit::STATES * Circuit::READINGS;
 
     pub const VALUES: usize = Circuit::VARIABLES + 1;
+
     pub const NAMES: usize = Circuit::INPUTS + Circuit::LATCHES + Circuit::OUTPUTS;
 }
 

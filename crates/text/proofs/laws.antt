@@ -12,6 +12,7 @@ pub mod BodyLoop
 pub mod LinesLoop
 pub mod TextLoop
 pub mod ReadLoop
+pub mod FileLoop
 pub mod Outcome
 pub mod Lists
 pub mod Run

@@ -4,5 +4,5 @@ mod fields;
 mod judge;
 mod line;
 mod number;
-mod read;
+pub mod read;
 mod symbols;

@@ -1,10 +1,17 @@
 // Reading a file (01, "The numbers"): a circuit, or number and place.
-use circuit::counts::controllables;
-use circuit::{Circuit, FileRead, Read, Refusal};
-use crate::body::{body_lines, Bodied, Sectioned};
-use crate::fields::{five_at, Row};
+use crate::body::Bodied;
+use crate::body::Sectioned;
+use crate::body::body_lines;
+use crate::fields::Row;
+use crate::fields::five_at;
 use crate::line::line_end;
-use crate::symbols::{starts_with, symbol_lines};
+use crate::symbols::starts_with;
+use crate::symbols::symbol_lines;
+use circuit::Circuit;
+use circuit::FileRead;
+use circuit::Read;
+use circuit::Refusal;
+use circuit::counts::controllables;
 ghost use Prim.Native.Nat.{_+_, _≤_};
 ghost use mathlib.Core.List.{[], _∷_};
 ghost use mathlib.Core.Path.{_≡_};
@@ -49,7 +56,15 @@ fn name_lines(
     ensures { λ r. ⌜ NamedAs inputs latches gates (now (s .entry)) at output (now (flags .exit)) r ⌝ }
 {
     let mut named = no_names();
-    match symbol_lines(s, at, 3 + inputs + latches + gates, inputs, latches, &mut named, flags) {
+    match symbol_lines(
+        s,
+        at,
+        3 + inputs + latches + gates,
+        inputs,
+        latches,
+        &mut named,
+        flags,
+    ) {
         Sectioned::Refused(r) => Bodied::Refused(r),
         Sectioned::Done(_) => Bodied::Lines(at, output),
     }
@@ -72,9 +87,28 @@ fn text_lines(
     ensures { λ r. ⌜ TextAs (headerWith m (length (now (input .entry))) (length (now (latch .entry))) (length (now (gate .entry)))) (now (s .entry)) from (now (input .exit)) (now (flags .exit)) (now (latch .exit)) (now (next .exit)) (now (gate .exit)) (now (left .exit)) (now (right .exit)) r ⌝ }
 {
     let mut defined = no_marks();
-    match body_lines(s, from, m, &mut defined, input, latch, next, gate, left, right) {
+    match body_lines(
+        s,
+        from,
+        m,
+        &mut defined,
+        input,
+        latch,
+        next,
+        gate,
+        left,
+        right,
+    ) {
         Bodied::Refused(r) => Bodied::Refused(r),
-        Bodied::Lines(at, output) => name_lines(s, at, output, gate.len(), latch.len(), input.len(), flags),
+        Bodied::Lines(at, output) => name_lines(
+            s,
+            at,
+            output,
+            gate.len(),
+            latch.len(),
+            input.len(),
+            flags,
+        ),
     }
 }
 
@@ -158,7 +192,14 @@ fn counted(circuit: Circuit, inputs: usize) -> FileRead
 }
 
 // The lines behind a header within the limits, and the circuit that they make.
-fn read_lines(s: &[u8], from: usize, m: u16, inputs: usize, latches: usize, gates: usize) -> FileRead
+fn read_lines(
+    s: &[u8],
+    from: usize,
+    m: u16,
+    inputs: usize,
+    latches: usize,
+    gates: usize,
+) -> FileRead
     requires { ⌜ LinesRoom (now s) from m inputs latches gates ⌝ }
     ensures { λ r. ⌜ LinesAs (headerWith m inputs latches gates) (now (s .entry)) from r ⌝ }
 {
@@ -244,7 +285,14 @@ pub fn read(file: &[u8]) -> FileRead
         return refused(2, 1);
     };
     if within(m, inputs, latches, outputs, gates) {
-        return read_lines(file, end, m as u16, inputs as usize, latches as usize, gates as usize);
+        return read_lines(
+            file,
+            end,
+            m as u16,
+            inputs as usize,
+            latches as usize,
+            gates as usize,
+        );
     }
     refused(3, 1)
 }

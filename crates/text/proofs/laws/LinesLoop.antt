@@ -103,6 +103,7 @@ module _ (h : Header) (rest : List (List ℕ)) where
       late : (first : First) (last : Last) → linesRead h rest ≡ behindGates h (first .inputs) (first .latches) (last .output) (last .gates) → (lateStage h (first .latches) (last .output) (last .gates) ≡ refused number place) ⊎ ((u : Unit {0}) × (lateStage h (first .latches) (last .output) (last .gates) ≡ taken u) × (_≡_ {A = Outcome Bodies} (taken (record { first = first; last = last })) (refused number place))) → linesRead h rest ≡ refused number place
       late first last so (inl l) = so ∙ rw l
       late first last so (inr w) = absurd (taken-is-not-refused number place (record { first = first; last = last }) (w .2))
+
       ends : (first : First) → linesRead h rest ≡ behindLatches h (first .inputs) (first .latches) → (lastRead h (onward (first .latches)) ≡ refused number place) ⊎ ((last : Last) × (lastRead h (onward (first .latches)) ≡ taken last) × (late-of first last ≡ refused number place)) → linesRead h rest ≡ refused number place
       ends first so (inl l) = so ∙ last-broken (first .inputs) (first .latches) number place l
       ends first so (inr w) =
@@ -110,6 +111,7 @@ module _ (h : Header) (rest : List (List ℕ)) where
           late first (w .0)
           (so ∙ from-output (first .inputs) (first .latches) (w .0 .output) o ∙ from-gates (first .inputs) (first .latches) (w .0 .output) (w .0 .gates) s)
           (then-refused (lateStage h (first .latches) (w .0 .output) (w .0 .gates)) (taken (record { first = first; last = w .0 })) number place (w .2))
+
       middle : (first : First) → firstRead h opening ≡ taken first → behind-first first ≡ refused number place → linesRead h rest ≡ refused number place
       middle first f g =
           let (i, l) = first-taken first f in

@@ -50,13 +50,16 @@ padded-part n k l e h =
   where
     whole : length l + (n - k) ≡ n
     whole = omega arith
+
     zeros : (m i : ℕ) → i < m → getD (zeroes m) i 0 ≡ zero
     zeros m i l′ = getD-table (λ j. zero) m i 0 l′
+
     rest : drop k (zeroes n) ≡ zeroes (n - k)
     rest =
         ext-getD 0 (drop k (zeroes n)) (zeroes (n - k))
         (length-drop k (zeroes n) ∙ ap (λ (m : ℕ). m - k) (length-table (λ i. zero) n) ∙ sym (length-table (λ i. zero) (n - k)))
         (λ i j. getD-drop k (zeroes n) i 0 ∙ zeros n (k + i) (omega (arith, length-drop k (zeroes n), length-table (λ i. zero) n)) ∙ sym (zeros (n - k) i (omega (arith, length-drop k (zeroes n), length-table (λ i. zero) n))))
+
     front : take (n - k) (replicate n zero) ≡ replicate (n - k) zero
     front =
         ext-getD 0 (take (n - k) (replicate n zero)) (replicate (n - k) zero)
@@ -65,6 +68,7 @@ padded-part n k l e h =
       where
         shorter : min (n - k) (length (replicate n zero)) ≡ length (replicate (n - k) zero)
         shorter = omega (arith, length-replicate {A = ℕ} n 0, length-replicate {A = ℕ} (n - k) 0)
+
         below : (i : ℕ) → i < length (take (n - k) (replicate n zero)) → i < n - k
         below i j = omega (arith, length-take (n - k) (replicate {A = ℕ} n 0))
 
@@ -134,8 +138,8 @@ flag-is false = refl
 
 -- the file that was read, as the code holds it, and the circuit that it means
 module _ (m inputs latches gates : ℕ) (bytes : List ℕ) (at : ℕ) (input flags latch next gate left right : List ℕ) (literal : ℕ)
-  (w : TextAt (headerWith m inputs latches gates) bytes at input flags latch next gate left right literal)
-  (inputs-long : length input ≡ inputs) (flags-long : length flags ≡ inputs) where
+    (w : TextAt (headerWith m inputs latches gates) bytes at input flags latch next gate left right literal)
+    (inputs-long : length input ≡ inputs) (flags-long : length flags ≡ inputs) where
   flags-are : (i : ℕ) → i < inputs → not (eqb (getD flags i 0) 0) ≡ isControllable (w .file .symbols) i
   unfolding headerWith Flags
   flags-are i h = ap (λ (n : ℕ). not (eqb n 0)) (w .flagged i h) ∙ flag-is (isControllable (w .file .symbols) i)
@@ -146,6 +150,7 @@ module _ (m inputs latches gates : ℕ) (bytes : List ℕ) (at : ℕ) (input fla
     where
       size : length (w .file .inputs) ≡ inputs
       size = ap length (w .inputs) ∙ inputs-long
+
       count : (p : Input → Bool) → ((i : ℕ) → i < inputs → p (record { own = literalOf (getD input i 0); controllable = not (eqb (getD flags i 0) 0) }) ≡ p (record { own = getD (w .file .inputs) i 0; controllable = isControllable (w .file .symbols) i })) → inputsThat p (table (λ i. record { own = literalOf (getD input i 0); controllable = not (eqb (getD flags i 0) 0) }) (length input)) ≡ inputsThat p (table (λ i. record { own = getD (w .file .inputs) i 0; controllable = isControllable (w .file .symbols) i }) (length (w .file .inputs)))
       count p e = rw (size, inputs-long) (inputs-that-same p p _ _ inputs e)
 
@@ -164,7 +169,7 @@ module _ (m inputs latches gates : ℕ) (bytes : List ℕ) (at : ℕ) (input fla
       ∙ table-getD flags 0
 
   module _ (latches-long : length latch ≡ latches) (nexts-long : length next ≡ latches) (gates-long : length gate ≡ gates) (lefts-long : length left ≡ gates) (rights-long : length right ≡ gates)
-    (few-inputs : inputs ≤ base .inputs) (few-latches : latches ≤ base .latches) (few-gates : gates ≤ base .variable) where
+      (few-inputs : inputs ≤ base .inputs) (few-latches : latches ≤ base .latches) (few-gates : gates ≤ base .variable) where
     column : {A : Type 0} (f : A → ℕ) (g : ℕ → A) (l : List ℕ) (n : ℕ) → length l ≡ n → ((i : ℕ) → f (g i) ≡ getD l i 0) → map f (table g n) ≡ l
     column f g l n e same = map-table f g n ∙ table-same (λ i. f (g i)) (λ i. getD l i 0) n (λ i h. same i) ∙ ap (table (λ i. getD l i 0)) (sym e) ∙ table-getD l 0
 
@@ -173,19 +178,19 @@ module _ (m inputs latches gates : ℕ) (bytes : List ℕ) (at : ℕ) (input fla
     unfolding stored headerWith latchAt gateAt circuitOf
     value-stored v q₁ q₂ q₃ q₄ q₅ q₆ q₇ q₈ q₉ q₁₀ q₁₁ q₁₂ =
         λ x.
-        record
-        { largest = (q₁ ∙ sym (w .largest)) x
-        ; inputs = (q₂ ∙ sym (ap length (w .inputs) ∙ inputs-long) ∙ sym (length-table {A = Input} (λ i. record { own = getD (w .file .inputs) i 0; controllable = isControllable (w .file .symbols) i }) (length (w .file .inputs)))) x
-        ; latches = (q₃ ∙ sym (ap length (w .latches) ∙ length-table (latchAt latch next) latches)) x
-        ; gates = (q₄ ∙ sym (ap length (w .gates) ∙ length-table (gateAt gate left right) gates)) x
-        ; input = (q₆ ∙ padded-part 13 inputs input inputs-long few-inputs ∙ ap (padded 13) (sym input-column)) x
-        ; controllable = (q₇ ∙ padded-part 13 inputs flags flags-long few-inputs ∙ ap (padded 13) (sym flag-column)) x
-        ; latch = (q₈ ∙ padded-part 10 latches latch latches-long few-latches ∙ ap (padded 10) (sym (ap (map (λ (l : Latch). l .own)) (w .latches) ∙ column (λ (l : Latch). l .own) (latchAt latch next) latch latches latches-long (λ i. refl)))) x
-        ; next = (q₉ ∙ padded-part 10 latches next nexts-long few-latches ∙ ap (padded 10) (sym (ap (map (λ (l : Latch). l .next)) (w .latches) ∙ column (λ (l : Latch). l .next) (latchAt latch next) next latches nexts-long (λ i. refl)))) x
-        ; output = (q₅ ∙ sym (w .output)) x
-        ; gate = (q₁₀ ∙ padded-part 1000 gates gate gates-long few-gates ∙ ap (padded 1000) (sym (ap (map (λ (g : Gate). g .own)) (w .gates) ∙ column (λ (g : Gate). g .own) (gateAt gate left right) gate gates gates-long (λ i. refl)))) x
-        ; left = (q₁₁ ∙ padded-part 1000 gates left lefts-long few-gates ∙ ap (padded 1000) (sym (ap (map (λ (g : Gate). g .left)) (w .gates) ∙ column (λ (g : Gate). g .left) (gateAt gate left right) left gates lefts-long (λ i. refl)))) x
-        ; right = (q₁₂ ∙ padded-part 1000 gates right rights-long few-gates ∙ ap (padded 1000) (sym (ap (map (λ (g : Gate). g .right)) (w .gates) ∙ column (λ (g : Gate). g .right) (gateAt gate left right) right gates rights-long (λ i. refl)))) x
+        record {
+          largest = (q₁ ∙ sym (w .largest)) x;
+          inputs = (q₂ ∙ sym (ap length (w .inputs) ∙ inputs-long) ∙ sym (length-table {A = Input} (λ i. record { own = getD (w .file .inputs) i 0; controllable = isControllable (w .file .symbols) i }) (length (w .file .inputs)))) x;
+          latches = (q₃ ∙ sym (ap length (w .latches) ∙ length-table (latchAt latch next) latches)) x;
+          gates = (q₄ ∙ sym (ap length (w .gates) ∙ length-table (gateAt gate left right) gates)) x;
+          input = (q₆ ∙ padded-part 13 inputs input inputs-long few-inputs ∙ ap (padded 13) (sym input-column)) x;
+          controllable = (q₇ ∙ padded-part 13 inputs flags flags-long few-inputs ∙ ap (padded 13) (sym flag-column)) x;
+          latch = (q₈ ∙ padded-part 10 latches latch latches-long few-latches ∙ ap (padded 10) (sym (ap (map (λ (l : Latch). l .own)) (w .latches) ∙ column (λ (l : Latch). l .own) (latchAt latch next) latch latches latches-long (λ i. refl)))) x;
+          next = (q₉ ∙ padded-part 10 latches next nexts-long few-latches ∙ ap (padded 10) (sym (ap (map (λ (l : Latch). l .next)) (w .latches) ∙ column (λ (l : Latch). l .next) (latchAt latch next) next latches nexts-long (λ i. refl)))) x;
+          output = (q₅ ∙ sym (w .output)) x;
+          gate = (q₁₀ ∙ padded-part 1000 gates gate gates-long few-gates ∙ ap (padded 1000) (sym (ap (map (λ (g : Gate). g .own)) (w .gates) ∙ column (λ (g : Gate). g .own) (gateAt gate left right) gate gates gates-long (λ i. refl)))) x;
+          left = (q₁₁ ∙ padded-part 1000 gates left lefts-long few-gates ∙ ap (padded 1000) (sym (ap (map (λ (g : Gate). g .left)) (w .gates) ∙ column (λ (g : Gate). g .left) (gateAt gate left right) left gates lefts-long (λ i. refl)))) x;
+          right = (q₁₂ ∙ padded-part 1000 gates right rights-long few-gates ∙ ap (padded 1000) (sym (ap (map (λ (g : Gate). g .right)) (w .gates) ∙ column (λ (g : Gate). g .right) (gateAt gate left right) right gates rights-long (λ i. refl)))) x;
         }
 
     -- the reader's answer: number 9, or the circuit
@@ -195,6 +200,7 @@ module _ (m inputs latches gates : ℕ) (bytes : List ℕ) (at : ℕ) (input fla
       where
         asked : tooMany base (withInputs (inputsOf (take inputs (v .input)) (take inputs (v .controllable)))) ≡ tooMany base (circuitOf (w .file))
         asked = ap₂ (λ (a b : List ℕ). tooMany base (withInputs (inputsOf a b))) front fronts ∙ too-many-same
+
         by : (b : Bool) → tooMany base (circuitOf (w .file)) ≡ b → ReadAs (circuitOfLines (linesRead (headerWith m inputs latches gates) (lines (drop at bytes)))) r
         by true e = read-refused _ tooManyInputs 0 r (rw (w .whole, e)) (h .many (asked ∙ e))
         by false e = read-taken _ (circuitOf (w .file)) r (rw (w .whole, e)) (h .few (asked ∙ e) ∙ ap {B = FileRead} (λ u. record { answer = Taken; circuit = u }) is)

@@ -70,21 +70,24 @@ module _ (m inputs latches gates : ℕ) (bytes : List ℕ) (at : ℕ) where
     where
       H : Header
       H = headerWith m inputs latches gates
+
       so : linesRead H (lines (drop at bytes)) ≡ behindLate H (w .bodies .first .inputs) (w .bodies .first .latches) (w .bodies .last .output) (w .bodies .last .gates)
       so = lines-taken H (lines (drop at bytes)) (w .bodies) (w .whole)
+
       symbols : symbolStage H (w .bodies .last .gates) ≡ symbolLines (counted inputs latches) (3 + inputs + latches + gates) [] (lines (drop behind bytes))
       symbols = ap (symbolLines H (3 + inputs + latches + gates) []) (w .rest) ∙ symbol-lines-same H (counted inputs latches) (λ letter. refl) (3 + inputs + latches + gates) [] (lines (drop behind bytes))
+
       by : (s : Bodied) → NamedAs inputs latches gates bytes behind literal flags s → TextAs (headerWith m inputs latches gates) bytes at input flags latch next gate left right s
       by (Lines end output) (same, read) =
           rw same
-          (record
-          { file = fileOf H (w .bodies .first .inputs) (w .bodies .first .latches) (w .bodies .last .output) (w .bodies .last .gates) (record { symbols = read .symbols; comment = read .comment })
-          ; whole = so ∙ rw (symbols ∙ read .whole)
-          ; largest = refl
-          ; inputs = ap (map (λ fs. getD fs 0 0)) (w .inputs) ∙ map-table (λ fs. getD fs 0 0) (inputRow input) inputs ∙ ap (table (λ i. getD input i 0)) (sym long) ∙ table-getD input 0
-          ; latches = ap (map latchOf) (w .latches) ∙ map-table latchOf (latchRow latch next) latches
-          ; output = ap (λ (rows : List (List ℕ)). getD (getD rows 0 []) 0 0) (w .output)
-          ; gates = ap (map gateOf) (w .gates) ∙ map-table gateOf (gateRow gate left right) gates
-          ; flagged = read .flagged
+          (record {
+            file = fileOf H (w .bodies .first .inputs) (w .bodies .first .latches) (w .bodies .last .output) (w .bodies .last .gates) (record { symbols = read .symbols; comment = read .comment });
+            whole = so ∙ rw (symbols ∙ read .whole);
+            largest = refl;
+            inputs = ap (map (λ fs. getD fs 0 0)) (w .inputs) ∙ map-table (λ fs. getD fs 0 0) (inputRow input) inputs ∙ ap (table (λ i. getD input i 0)) (sym long) ∙ table-getD input 0;
+            latches = ap (map latchOf) (w .latches) ∙ map-table latchOf (latchRow latch next) latches;
+            output = ap (λ (rows : List (List ℕ)). getD (getD rows 0 []) 0 0) (w .output);
+            gates = ap (map gateOf) (w .gates) ∙ map-table gateOf (gateRow gate left right) gates;
+            flagged = read .flagged;
           })
       by (Refused q) e = so ∙ rw (symbols ∙ e)

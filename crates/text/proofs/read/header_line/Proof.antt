@@ -1,30 +1,24 @@
+-- `text::read::header_line` meets its contract: the word, then five numbers. Assumes nothing.
 use borrow.Author.Needs.{needs}
+use mathlib.Core.Path.{_≡_, refl, sym, ap, _∙_, subst}
+use Rattle.text.proofs.laws.FileLoop.{header-as, header-none}
 use Rattle.text.proofs.read.header_line.Statement.{statement}
 use Rattle.text.proofs.read.header_line.Tie as tie
-use Rattle.text.proofs.read.header_line.Reads as reads
-use Rattle.text.proofs.read.header_line.Lts as lts
-use Rattle.text.proofs.fields.five_at.Reads as five-at-reads
-use Rattle.text.proofs.symbols.starts_with.Reads as starts-with-reads
 
--- src/read.rt:209:20
 slice-aggregate-starts-with : tie.Need-slice-aggregate-starts-with
 slice-aggregate-starts-with c = search needs
 
--- src/read.rt:209:8
 starts-with-requires : tie.Need-starts-with-requires
 starts-with-requires c κs = search needs
 
--- src/read.rt:210:9
 five-at-requires : tie.Need-five-at-requires
 five-at-requires c κs = search needs
 
--- src/read.rt:210:9
 returns : tie.Need-returns
-returns c = ?
+returns c = header-as (c .before .before .before .before .before .args .line .now) (sym (c .before .before .starts-with .ensures) ∙ c .before .if1 .taken) (c .five-at .result) (c .five-at .ensures)
 
--- src/read.rt:206:1
 returns-2 : tie.Need-returns-2
-returns-2 c = ?
+returns-2 c = header-none (c .before .before .before .before .args .line .now) (sym (c .before .starts-with .ensures) ∙ c .if1 .left)
 
 pub header-line-spec : {M : Type 1} → statement M
 header-line-spec =

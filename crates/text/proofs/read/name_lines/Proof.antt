@@ -30,15 +30,15 @@ symbol-lines-requires : tie.Need-symbol-lines-requires
 symbol-lines-requires c κs =
     let a = c .before .before .before .before .before .args in
     let p = c .before .before .before .before .before .pre in
-    record
-    { within = p .within
-    ; places = omega (arith, p .inputs-most, p .latches-most, p .gates-most)
-    ; inputs-most = p .inputs-most
-    ; latches-most = p .latches-most
-    ; marks-all = ap length (c .before .before .no-names .ensures) ∙ length-table (λ i. 0) 24
-    ; marks-none = λ i. ap (λ (l : List ℕ). getD l i 0) (c .before .before .no-names .ensures) ∙ zeros-at 24 i
-    ; flags-all = p .flags-all
-    ; flags-none = p .flags-none
+    record {
+      within = p .within;
+      places = omega (arith, p .inputs-most, p .latches-most, p .gates-most);
+      inputs-most = p .inputs-most;
+      latches-most = p .latches-most;
+      marks-all = ap length (c .before .before .no-names .ensures) ∙ length-table (λ i. 0) 24;
+      marks-none = λ i. ap (λ (l : List ℕ). getD l i 0) (c .before .before .no-names .ensures) ∙ zeros-at 24 i;
+      flags-all = p .flags-all;
+      flags-none = p .flags-none;
     }
 
 enum-known-r : tie.Need-enum-known-r
@@ -51,7 +51,7 @@ same-length : tie.Need-same-length
 same-length c = search needs
 
 returns : tie.Need-returns
-returns c = 
+returns c =
     let a = c .before .before .before .before .before .before .before .before .before .before .before .before .args in
     let p = c .before .before .before .before .before .before .before .before .before .before .before .before .pre in
     subst (SymbolsAs (a .inputs) (a .latches) (3 + a .inputs + a .latches + a .gates) (a .s .now) (a .at) (c .before .before .before .before .before .before .symbol-lines .last .1 .1 .1 .1 .1 .1 .0)) (c .before .r .given .1) (c .before .before .before .before .before .before .symbol-lines .ensures)
@@ -60,7 +60,7 @@ same-length-2 : tie.Need-same-length-2
 same-length-2 c = search needs
 
 returns-2 : tie.Need-returns-2
-returns-2 c = 
+returns-2 c =
     let a = c .before .before .before .before .before .before .before .before .before .before .before .args in
     let p = c .before .before .before .before .before .before .before .before .before .before .before .pre in
     (refl, subst (SymbolsAs (a .inputs) (a .latches) (3 + a .inputs + a .latches + a .gates) (a .s .now) (a .at) (c .before .before .before .before .before .symbol-lines .last .1 .1 .1 .1 .1 .1 .0)) (c .enum-told .given .1) (c .before .before .before .before .before .symbol-lines .ensures))

@@ -82,17 +82,17 @@ text-lines-requires : tie.Need-text-lines-requires
 text-lines-requires c κs =
     let a = c .before .before .before .before .before .before .before .before .before .before .before .before .before .before .before .args in
     let p = c .before .before .before .before .before .before .before .before .before .before .before .before .before .before .before .pre in
-    record
-    { within = p .within
-    ; largest = p .largest
-    ; inputs = omega (arith, zeros-cut 13 (c .before .before .before .before .before .before .before .before .before .before .before .before .before .before .before .args .inputs) (c .before .before .before .before .before .before .before .before .before .before .before .before .before .no-inputs .result) (c .before .before .before .before .before .before .before .before .before .before .before .before .before .no-inputs .ensures) (c .before .before .before .before .before .before .before .before .before .before .before .before .before .before .before .pre .inputs-most), p .inputs-most)
-    ; latches = omega (arith, zeros-cut 10 (c .before .before .before .before .before .before .before .before .before .before .before .before .before .before .before .args .latches) (c .before .before .before .before .before .before .before .before .before .before .before .no-latches .result) (c .before .before .before .before .before .before .before .before .before .before .before .no-latches .ensures) (c .before .before .before .before .before .before .before .before .before .before .before .before .before .before .before .pre .latches-most), p .latches-most)
-    ; gates = omega (arith, zeros-cut 1000 (c .before .before .before .before .before .before .before .before .before .before .before .before .before .before .before .args .gates) (c .before .before .before .before .before .before .before .before .before .no-gates .result) (c .before .before .before .before .before .before .before .before .before .no-gates .ensures) (c .before .before .before .before .before .before .before .before .before .before .before .before .before .before .before .pre .gates-most), p .gates-most)
-    ; flags-all = zeros-cut 13 (c .before .before .before .before .before .before .before .before .before .before .before .before .before .before .before .args .inputs) (c .before .before .before .before .before .before .before .before .before .before .before .before .no-flags .result) (c .before .before .before .before .before .before .before .before .before .before .before .before .no-flags .ensures) (c .before .before .before .before .before .before .before .before .before .before .before .before .before .before .before .pre .inputs-most) ∙ sym (zeros-cut 13 (c .before .before .before .before .before .before .before .before .before .before .before .before .before .before .before .args .inputs) (c .before .before .before .before .before .before .before .before .before .before .before .before .before .no-inputs .result) (c .before .before .before .before .before .before .before .before .before .before .before .before .before .no-inputs .ensures) (c .before .before .before .before .before .before .before .before .before .before .before .before .before .before .before .pre .inputs-most))
-    ; flags-none = zeros-cut-at 13 (a .inputs) (c .before .before .before .before .before .before .before .before .before .before .before .before .no-flags .result) (c .before .before .before .before .before .before .before .before .before .before .before .before .no-flags .ensures) (p .inputs-most)
-    ; nexts = zeros-cut 10 (c .before .before .before .before .before .before .before .before .before .before .before .before .before .before .before .args .latches) (c .before .before .before .before .before .before .before .before .before .before .no-latches2 .result) (c .before .before .before .before .before .before .before .before .before .before .no-latches2 .ensures) (c .before .before .before .before .before .before .before .before .before .before .before .before .before .before .before .pre .latches-most) ∙ sym (zeros-cut 10 (c .before .before .before .before .before .before .before .before .before .before .before .before .before .before .before .args .latches) (c .before .before .before .before .before .before .before .before .before .before .before .no-latches .result) (c .before .before .before .before .before .before .before .before .before .before .before .no-latches .ensures) (c .before .before .before .before .before .before .before .before .before .before .before .before .before .before .before .pre .latches-most))
-    ; lefts = zeros-cut 1000 (c .before .before .before .before .before .before .before .before .before .before .before .before .before .before .before .args .gates) (c .before .before .before .before .before .before .before .before .no-gates2 .result) (c .before .before .before .before .before .before .before .before .no-gates2 .ensures) (c .before .before .before .before .before .before .before .before .before .before .before .before .before .before .before .pre .gates-most) ∙ sym (zeros-cut 1000 (c .before .before .before .before .before .before .before .before .before .before .before .before .before .before .before .args .gates) (c .before .before .before .before .before .before .before .before .before .no-gates .result) (c .before .before .before .before .before .before .before .before .before .no-gates .ensures) (c .before .before .before .before .before .before .before .before .before .before .before .before .before .before .before .pre .gates-most))
-    ; rights = zeros-cut 1000 (c .before .before .before .before .before .before .before .before .before .before .before .before .before .before .before .args .gates) (c .before .before .before .before .before .before .before .no-gates3 .result) (c .before .before .before .before .before .before .before .no-gates3 .ensures) (c .before .before .before .before .before .before .before .before .before .before .before .before .before .before .before .pre .gates-most) ∙ sym (zeros-cut 1000 (c .before .before .before .before .before .before .before .before .before .before .before .before .before .before .before .args .gates) (c .before .before .before .before .before .before .before .before .before .no-gates .result) (c .before .before .before .before .before .before .before .before .before .no-gates .ensures) (c .before .before .before .before .before .before .before .before .before .before .before .before .before .before .before .pre .gates-most))
+    record {
+      within = p .within;
+      largest = p .largest;
+      inputs = omega (arith, zeros-cut 13 (c .before .before .before .before .before .before .before .before .before .before .before .before .before .before .before .args .inputs) (c .before .before .before .before .before .before .before .before .before .before .before .before .before .no-inputs .result) (c .before .before .before .before .before .before .before .before .before .before .before .before .before .no-inputs .ensures) (c .before .before .before .before .before .before .before .before .before .before .before .before .before .before .before .pre .inputs-most), p .inputs-most);
+      latches = omega (arith, zeros-cut 10 (c .before .before .before .before .before .before .before .before .before .before .before .before .before .before .before .args .latches) (c .before .before .before .before .before .before .before .before .before .before .before .no-latches .result) (c .before .before .before .before .before .before .before .before .before .before .before .no-latches .ensures) (c .before .before .before .before .before .before .before .before .before .before .before .before .before .before .before .pre .latches-most), p .latches-most);
+      gates = omega (arith, zeros-cut 1000 (c .before .before .before .before .before .before .before .before .before .before .before .before .before .before .before .args .gates) (c .before .before .before .before .before .before .before .before .before .no-gates .result) (c .before .before .before .before .before .before .before .before .before .no-gates .ensures) (c .before .before .before .before .before .before .before .before .before .before .before .before .before .before .before .pre .gates-most), p .gates-most);
+      flags-all = zeros-cut 13 (c .before .before .before .before .before .before .before .before .before .before .before .before .before .before .before .args .inputs) (c .before .before .before .before .before .before .before .before .before .before .before .before .no-flags .result) (c .before .before .before .before .before .before .before .before .before .before .before .before .no-flags .ensures) (c .before .before .before .before .before .before .before .before .before .before .before .before .before .before .before .pre .inputs-most) ∙ sym (zeros-cut 13 (c .before .before .before .before .before .before .before .before .before .before .before .before .before .before .before .args .inputs) (c .before .before .before .before .before .before .before .before .before .before .before .before .before .no-inputs .result) (c .before .before .before .before .before .before .before .before .before .before .before .before .before .no-inputs .ensures) (c .before .before .before .before .before .before .before .before .before .before .before .before .before .before .before .pre .inputs-most));
+      flags-none = zeros-cut-at 13 (a .inputs) (c .before .before .before .before .before .before .before .before .before .before .before .before .no-flags .result) (c .before .before .before .before .before .before .before .before .before .before .before .before .no-flags .ensures) (p .inputs-most);
+      nexts = zeros-cut 10 (c .before .before .before .before .before .before .before .before .before .before .before .before .before .before .before .args .latches) (c .before .before .before .before .before .before .before .before .before .before .no-latches2 .result) (c .before .before .before .before .before .before .before .before .before .before .no-latches2 .ensures) (c .before .before .before .before .before .before .before .before .before .before .before .before .before .before .before .pre .latches-most) ∙ sym (zeros-cut 10 (c .before .before .before .before .before .before .before .before .before .before .before .before .before .before .before .args .latches) (c .before .before .before .before .before .before .before .before .before .before .before .no-latches .result) (c .before .before .before .before .before .before .before .before .before .before .before .no-latches .ensures) (c .before .before .before .before .before .before .before .before .before .before .before .before .before .before .before .pre .latches-most));
+      lefts = zeros-cut 1000 (c .before .before .before .before .before .before .before .before .before .before .before .before .before .before .before .args .gates) (c .before .before .before .before .before .before .before .before .no-gates2 .result) (c .before .before .before .before .before .before .before .before .no-gates2 .ensures) (c .before .before .before .before .before .before .before .before .before .before .before .before .before .before .before .pre .gates-most) ∙ sym (zeros-cut 1000 (c .before .before .before .before .before .before .before .before .before .before .before .before .before .before .before .args .gates) (c .before .before .before .before .before .before .before .before .before .no-gates .result) (c .before .before .before .before .before .before .before .before .before .no-gates .ensures) (c .before .before .before .before .before .before .before .before .before .before .before .before .before .before .before .pre .gates-most));
+      rights = zeros-cut 1000 (c .before .before .before .before .before .before .before .before .before .before .before .before .before .before .before .args .gates) (c .before .before .before .before .before .before .before .no-gates3 .result) (c .before .before .before .before .before .before .before .no-gates3 .ensures) (c .before .before .before .before .before .before .before .before .before .before .before .before .before .before .before .pre .gates-most) ∙ sym (zeros-cut 1000 (c .before .before .before .before .before .before .before .before .before .before .before .before .before .before .before .args .gates) (c .before .before .before .before .before .before .before .before .before .no-gates .result) (c .before .before .before .before .before .before .before .before .before .no-gates .ensures) (c .before .before .before .before .before .before .before .before .before .before .before .before .before .before .before .pre .gates-most));
     }
 
 enum-known-r : tie.Need-enum-known-r
@@ -109,22 +109,22 @@ counted-requires c κs = search needs
 
 returns : tie.Need-returns
 unfolding circuitOfLines
-returns c = 
+returns c =
     let a = c .before .before .before .before .before .before .before .before .before .before .before .before .before .before .before .before .before .before .before .before .before .before .before .before .before .before .before .args in
     let p = c .before .before .before .before .before .before .before .before .before .before .before .before .before .before .before .before .before .before .before .before .before .before .before .before .before .before .before .pre in
     let t = c .before .before .before .before .before .before .before .before .before .before .before .text-lines in
     let w = subst (TextAs (headerWith (a .m) (a .inputs) (a .latches) (a .gates)) (a .s .now) (a .from) (t .last .1 .1 .1 .0) (t .last .1 .1 .1 .1 .0) (t .last .1 .1 .1 .1 .1 .0) (t .last .1 .1 .1 .1 .1 .1 .0) (t .last .1 .1 .1 .1 .1 .1 .1 .0) (t .last .1 .1 .1 .1 .1 .1 .1 .1 .0) (t .last .1 .1 .1 .1 .1 .1 .1 .1 .1 .0)) (c .before .before .r .given .1)
-        (subst₃ (λ (i l n : ℕ). TextAs (headerWith (a .m) i l n) (a .s .now) (a .from) (t .last .1 .1 .1 .0) (t .last .1 .1 .1 .1 .0) (t .last .1 .1 .1 .1 .1 .0) (t .last .1 .1 .1 .1 .1 .1 .0) (t .last .1 .1 .1 .1 .1 .1 .1 .0) (t .last .1 .1 .1 .1 .1 .1 .1 .1 .0) (t .last .1 .1 .1 .1 .1 .1 .1 .1 .1 .0) (t .result)) (zeros-cut 13 (c .before .before .before .before .before .before .before .before .before .before .before .before .before .before .before .before .before .before .before .before .before .before .before .before .before .before .before .args .inputs) (c .before .before .before .before .before .before .before .before .before .before .before .before .before .before .before .before .before .before .before .before .before .before .before .before .before .no-inputs .result) (c .before .before .before .before .before .before .before .before .before .before .before .before .before .before .before .before .before .before .before .before .before .before .before .before .before .no-inputs .ensures) (c .before .before .before .before .before .before .before .before .before .before .before .before .before .before .before .before .before .before .before .before .before .before .before .before .before .before .before .pre .inputs-most)) (zeros-cut 10 (c .before .before .before .before .before .before .before .before .before .before .before .before .before .before .before .before .before .before .before .before .before .before .before .before .before .before .before .args .latches) (c .before .before .before .before .before .before .before .before .before .before .before .before .before .before .before .before .before .before .before .before .before .before .before .no-latches .result) (c .before .before .before .before .before .before .before .before .before .before .before .before .before .before .before .before .before .before .before .before .before .before .before .no-latches .ensures) (c .before .before .before .before .before .before .before .before .before .before .before .before .before .before .before .before .before .before .before .before .before .before .before .before .before .before .before .pre .latches-most)) (zeros-cut 1000 (c .before .before .before .before .before .before .before .before .before .before .before .before .before .before .before .before .before .before .before .before .before .before .before .before .before .before .before .args .gates) (c .before .before .before .before .before .before .before .before .before .before .before .before .before .before .before .before .before .before .before .before .before .no-gates .result) (c .before .before .before .before .before .before .before .before .before .before .before .before .before .before .before .before .before .before .before .before .before .no-gates .ensures) (c .before .before .before .before .before .before .before .before .before .before .before .before .before .before .before .before .before .before .before .before .before .before .before .before .before .before .before .pre .gates-most)) (t .ensures)) in
+    (subst₃ (λ (i l n : ℕ). TextAs (headerWith (a .m) i l n) (a .s .now) (a .from) (t .last .1 .1 .1 .0) (t .last .1 .1 .1 .1 .0) (t .last .1 .1 .1 .1 .1 .0) (t .last .1 .1 .1 .1 .1 .1 .0) (t .last .1 .1 .1 .1 .1 .1 .1 .0) (t .last .1 .1 .1 .1 .1 .1 .1 .1 .0) (t .last .1 .1 .1 .1 .1 .1 .1 .1 .1 .0) (t .result)) (zeros-cut 13 (c .before .before .before .before .before .before .before .before .before .before .before .before .before .before .before .before .before .before .before .before .before .before .before .before .before .before .before .args .inputs) (c .before .before .before .before .before .before .before .before .before .before .before .before .before .before .before .before .before .before .before .before .before .before .before .before .before .no-inputs .result) (c .before .before .before .before .before .before .before .before .before .before .before .before .before .before .before .before .before .before .before .before .before .before .before .before .before .no-inputs .ensures) (c .before .before .before .before .before .before .before .before .before .before .before .before .before .before .before .before .before .before .before .before .before .before .before .before .before .before .before .pre .inputs-most)) (zeros-cut 10 (c .before .before .before .before .before .before .before .before .before .before .before .before .before .before .before .before .before .before .before .before .before .before .before .before .before .before .before .args .latches) (c .before .before .before .before .before .before .before .before .before .before .before .before .before .before .before .before .before .before .before .before .before .before .before .no-latches .result) (c .before .before .before .before .before .before .before .before .before .before .before .before .before .before .before .before .before .before .before .before .before .before .before .no-latches .ensures) (c .before .before .before .before .before .before .before .before .before .before .before .before .before .before .before .before .before .before .before .before .before .before .before .before .before .before .before .pre .latches-most)) (zeros-cut 1000 (c .before .before .before .before .before .before .before .before .before .before .before .before .before .before .before .before .before .before .before .before .before .before .before .before .before .before .before .args .gates) (c .before .before .before .before .before .before .before .before .before .before .before .before .before .before .before .before .before .before .before .before .before .no-gates .result) (c .before .before .before .before .before .before .before .before .before .before .before .before .before .before .before .before .before .before .before .before .before .no-gates .ensures) (c .before .before .before .before .before .before .before .before .before .before .before .before .before .before .before .before .before .before .before .before .before .before .before .before .before .before .before .pre .gates-most)) (t .ensures)) in
     read-refused (circuitOfLines (linesRead (headerWith (a .m) (a .inputs) (a .latches) (a .gates)) (lines (drop (a .from) (a .s .now))))) (c .before .before .r .given .0 .0 .number) (c .before .before .r .given .0 .0 .place) (c .refused .result) (rw w) (c .refused .ensures)
 
 returns-2 : tie.Need-returns-2
-returns-2 c = 
+returns-2 c =
     let a = c .before .before .before .before .before .before .before .before .before .before .before .before .before .before .before .before .before .before .before .before .before .before .before .before .before .before .before .args in
     let p = c .before .before .before .before .before .before .before .before .before .before .before .before .before .before .before .before .before .before .before .before .before .before .before .before .before .before .before .pre in
     let o = c .before .before .output .given .0 .1 .0 in
     let t = c .before .before .before .before .before .before .before .before .before .before .before .text-lines in
     let w = subst (TextAs (headerWith (a .m) (a .inputs) (a .latches) (a .gates)) (a .s .now) (a .from) (t .last .1 .1 .1 .0) (t .last .1 .1 .1 .1 .0) (t .last .1 .1 .1 .1 .1 .0) (t .last .1 .1 .1 .1 .1 .1 .0) (t .last .1 .1 .1 .1 .1 .1 .1 .0) (t .last .1 .1 .1 .1 .1 .1 .1 .1 .0) (t .last .1 .1 .1 .1 .1 .1 .1 .1 .1 .0)) (c .before .before .output .given .1)
-        (subst₃ (λ (i l n : ℕ). TextAs (headerWith (a .m) i l n) (a .s .now) (a .from) (t .last .1 .1 .1 .0) (t .last .1 .1 .1 .1 .0) (t .last .1 .1 .1 .1 .1 .0) (t .last .1 .1 .1 .1 .1 .1 .0) (t .last .1 .1 .1 .1 .1 .1 .1 .0) (t .last .1 .1 .1 .1 .1 .1 .1 .1 .0) (t .last .1 .1 .1 .1 .1 .1 .1 .1 .1 .0) (t .result)) (zeros-cut 13 (c .before .before .before .before .before .before .before .before .before .before .before .before .before .before .before .before .before .before .before .before .before .before .before .before .before .before .before .args .inputs) (c .before .before .before .before .before .before .before .before .before .before .before .before .before .before .before .before .before .before .before .before .before .before .before .before .before .no-inputs .result) (c .before .before .before .before .before .before .before .before .before .before .before .before .before .before .before .before .before .before .before .before .before .before .before .before .before .no-inputs .ensures) (c .before .before .before .before .before .before .before .before .before .before .before .before .before .before .before .before .before .before .before .before .before .before .before .before .before .before .before .pre .inputs-most)) (zeros-cut 10 (c .before .before .before .before .before .before .before .before .before .before .before .before .before .before .before .before .before .before .before .before .before .before .before .before .before .before .before .args .latches) (c .before .before .before .before .before .before .before .before .before .before .before .before .before .before .before .before .before .before .before .before .before .before .before .no-latches .result) (c .before .before .before .before .before .before .before .before .before .before .before .before .before .before .before .before .before .before .before .before .before .before .before .no-latches .ensures) (c .before .before .before .before .before .before .before .before .before .before .before .before .before .before .before .before .before .before .before .before .before .before .before .before .before .before .before .pre .latches-most)) (zeros-cut 1000 (c .before .before .before .before .before .before .before .before .before .before .before .before .before .before .before .before .before .before .before .before .before .before .before .before .before .before .before .args .gates) (c .before .before .before .before .before .before .before .before .before .before .before .before .before .before .before .before .before .before .before .before .before .no-gates .result) (c .before .before .before .before .before .before .before .before .before .before .before .before .before .before .before .before .before .before .before .before .before .no-gates .ensures) (c .before .before .before .before .before .before .before .before .before .before .before .before .before .before .before .before .before .before .before .before .before .before .before .before .before .before .before .pre .gates-most)) (t .ensures)) in
+    (subst₃ (λ (i l n : ℕ). TextAs (headerWith (a .m) i l n) (a .s .now) (a .from) (t .last .1 .1 .1 .0) (t .last .1 .1 .1 .1 .0) (t .last .1 .1 .1 .1 .1 .0) (t .last .1 .1 .1 .1 .1 .1 .0) (t .last .1 .1 .1 .1 .1 .1 .1 .0) (t .last .1 .1 .1 .1 .1 .1 .1 .1 .0) (t .last .1 .1 .1 .1 .1 .1 .1 .1 .1 .0) (t .result)) (zeros-cut 13 (c .before .before .before .before .before .before .before .before .before .before .before .before .before .before .before .before .before .before .before .before .before .before .before .before .before .before .before .args .inputs) (c .before .before .before .before .before .before .before .before .before .before .before .before .before .before .before .before .before .before .before .before .before .before .before .before .before .no-inputs .result) (c .before .before .before .before .before .before .before .before .before .before .before .before .before .before .before .before .before .before .before .before .before .before .before .before .before .no-inputs .ensures) (c .before .before .before .before .before .before .before .before .before .before .before .before .before .before .before .before .before .before .before .before .before .before .before .before .before .before .before .pre .inputs-most)) (zeros-cut 10 (c .before .before .before .before .before .before .before .before .before .before .before .before .before .before .before .before .before .before .before .before .before .before .before .before .before .before .before .args .latches) (c .before .before .before .before .before .before .before .before .before .before .before .before .before .before .before .before .before .before .before .before .before .before .before .no-latches .result) (c .before .before .before .before .before .before .before .before .before .before .before .before .before .before .before .before .before .before .before .before .before .before .before .no-latches .ensures) (c .before .before .before .before .before .before .before .before .before .before .before .before .before .before .before .before .before .before .before .before .before .before .before .before .before .before .before .pre .latches-most)) (zeros-cut 1000 (c .before .before .before .before .before .before .before .before .before .before .before .before .before .before .before .before .before .before .before .before .before .before .before .before .before .before .before .args .gates) (c .before .before .before .before .before .before .before .before .before .before .before .before .before .before .before .before .before .before .before .before .before .no-gates .result) (c .before .before .before .before .before .before .before .before .before .before .before .before .before .before .before .before .before .before .before .before .before .no-gates .ensures) (c .before .before .before .before .before .before .before .before .before .before .before .before .before .before .before .before .before .before .before .before .before .before .before .before .before .before .before .pre .gates-most)) (t .ensures)) in
     lines-as (a .m) (a .inputs) (a .latches) (a .gates) (a .s .now) (a .from) (t .last .1 .1 .1 .0) (t .last .1 .1 .1 .1 .0) (t .last .1 .1 .1 .1 .1 .0) (t .last .1 .1 .1 .1 .1 .1 .0) (t .last .1 .1 .1 .1 .1 .1 .1 .0) (t .last .1 .1 .1 .1 .1 .1 .1 .1 .0) (t .last .1 .1 .1 .1 .1 .1 .1 .1 .1 .0) o w (t .kept .1 .1 .1 .0 ∙ zeros-cut 13 (c .before .before .before .before .before .before .before .before .before .before .before .before .before .before .before .before .before .before .before .before .before .before .before .before .before .before .before .args .inputs) (c .before .before .before .before .before .before .before .before .before .before .before .before .before .before .before .before .before .before .before .before .before .before .before .before .before .no-inputs .result) (c .before .before .before .before .before .before .before .before .before .before .before .before .before .before .before .before .before .before .before .before .before .before .before .before .before .no-inputs .ensures) (c .before .before .before .before .before .before .before .before .before .before .before .before .before .before .before .before .before .before .before .before .before .before .before .before .before .before .before .pre .inputs-most)) (t .kept .1 .1 .1 .1 .0 ∙ zeros-cut 13 (c .before .before .before .before .before .before .before .before .before .before .before .before .before .before .before .before .before .before .before .before .before .before .before .before .before .before .before .args .inputs) (c .before .before .before .before .before .before .before .before .before .before .before .before .before .before .before .before .before .before .before .before .before .before .before .before .no-flags .result) (c .before .before .before .before .before .before .before .before .before .before .before .before .before .before .before .before .before .before .before .before .before .before .before .before .no-flags .ensures) (c .before .before .before .before .before .before .before .before .before .before .before .before .before .before .before .before .before .before .before .before .before .before .before .before .before .before .before .pre .inputs-most)) (t .kept .1 .1 .1 .1 .1 .0 ∙ zeros-cut 10 (c .before .before .before .before .before .before .before .before .before .before .before .before .before .before .before .before .before .before .before .before .before .before .before .before .before .before .before .args .latches) (c .before .before .before .before .before .before .before .before .before .before .before .before .before .before .before .before .before .before .before .before .before .before .before .no-latches .result) (c .before .before .before .before .before .before .before .before .before .before .before .before .before .before .before .before .before .before .before .before .before .before .before .no-latches .ensures) (c .before .before .before .before .before .before .before .before .before .before .before .before .before .before .before .before .before .before .before .before .before .before .before .before .before .before .before .pre .latches-most)) (t .kept .1 .1 .1 .1 .1 .1 .0 ∙ zeros-cut 10 (c .before .before .before .before .before .before .before .before .before .before .before .before .before .before .before .before .before .before .before .before .before .before .before .before .before .before .before .args .latches) (c .before .before .before .before .before .before .before .before .before .before .before .before .before .before .before .before .before .before .before .before .before .before .no-latches2 .result) (c .before .before .before .before .before .before .before .before .before .before .before .before .before .before .before .before .before .before .before .before .before .before .no-latches2 .ensures) (c .before .before .before .before .before .before .before .before .before .before .before .before .before .before .before .before .before .before .before .before .before .before .before .before .before .before .before .pre .latches-most)) (t .kept .1 .1 .1 .1 .1 .1 .1 .0 ∙ zeros-cut 1000 (c .before .before .before .before .before .before .before .before .before .before .before .before .before .before .before .before .before .before .before .before .before .before .before .before .before .before .before .args .gates) (c .before .before .before .before .before .before .before .before .before .before .before .before .before .before .before .before .before .before .before .before .before .no-gates .result) (c .before .before .before .before .before .before .before .before .before .before .before .before .before .before .before .before .before .before .before .before .before .no-gates .ensures) (c .before .before .before .before .before .before .before .before .before .before .before .before .before .before .before .before .before .before .before .before .before .before .before .before .before .before .before .pre .gates-most)) (t .kept .1 .1 .1 .1 .1 .1 .1 .1 .0 ∙ zeros-cut 1000 (c .before .before .before .before .before .before .before .before .before .before .before .before .before .before .before .before .before .before .before .before .before .before .before .before .before .before .before .args .gates) (c .before .before .before .before .before .before .before .before .before .before .before .before .before .before .before .before .before .before .before .before .no-gates2 .result) (c .before .before .before .before .before .before .before .before .before .before .before .before .before .before .before .before .before .before .before .before .no-gates2 .ensures) (c .before .before .before .before .before .before .before .before .before .before .before .before .before .before .before .before .before .before .before .before .before .before .before .before .before .before .before .pre .gates-most)) (t .kept .1 .1 .1 .1 .1 .1 .1 .1 .1 .0 ∙ zeros-cut 1000 (c .before .before .before .before .before .before .before .before .before .before .before .before .before .before .before .before .before .before .before .before .before .before .before .before .before .before .before .args .gates) (c .before .before .before .before .before .before .before .before .before .before .before .before .before .before .before .before .before .before .before .no-gates3 .result) (c .before .before .before .before .before .before .before .before .before .before .before .before .before .before .before .before .before .before .before .no-gates3 .ensures) (c .before .before .before .before .before .before .before .before .before .before .before .before .before .before .before .before .before .before .before .before .before .before .before .before .before .before .before .pre .gates-most)) (p .inputs-most) (p .latches-most) (p .gates-most) (record { largest = a .m; inputs = a .inputs; latches = a .latches; gates = a .gates; input = t .last .1 .1 .1 .0 ++ drop (a .inputs) (c .before .before .before .before .before .before .before .before .before .before .before .before .before .before .before .before .before .before .before .before .before .before .before .before .before .no-inputs .result); controllable = t .last .1 .1 .1 .1 .0 ++ drop (a .inputs) (c .before .before .before .before .before .before .before .before .before .before .before .before .before .before .before .before .before .before .before .before .before .before .before .before .no-flags .result); latch = t .last .1 .1 .1 .1 .1 .0 ++ drop (a .latches) (c .before .before .before .before .before .before .before .before .before .before .before .before .before .before .before .before .before .before .before .before .before .before .before .no-latches .result); next = t .last .1 .1 .1 .1 .1 .1 .0 ++ drop (a .latches) (c .before .before .before .before .before .before .before .before .before .before .before .before .before .before .before .before .before .before .before .before .before .before .no-latches2 .result); output = o; gate = t .last .1 .1 .1 .1 .1 .1 .1 .0 ++ drop (a .gates) (c .before .before .before .before .before .before .before .before .before .before .before .before .before .before .before .before .before .before .before .before .before .no-gates .result); left = t .last .1 .1 .1 .1 .1 .1 .1 .1 .0 ++ drop (a .gates) (c .before .before .before .before .before .before .before .before .before .before .before .before .before .before .before .before .before .before .before .before .no-gates2 .result); right = t .last .1 .1 .1 .1 .1 .1 .1 .1 .1 .0 ++ drop (a .gates) (c .before .before .before .before .before .before .before .before .before .before .before .before .before .before .before .before .before .before .before .no-gates3 .result) }) (c .counted .result)
     (value-stored (a .m) (a .inputs) (a .latches) (a .gates) (a .s .now) (a .from) (t .last .1 .1 .1 .0) (t .last .1 .1 .1 .1 .0) (t .last .1 .1 .1 .1 .1 .0) (t .last .1 .1 .1 .1 .1 .1 .0) (t .last .1 .1 .1 .1 .1 .1 .1 .0) (t .last .1 .1 .1 .1 .1 .1 .1 .1 .0) (t .last .1 .1 .1 .1 .1 .1 .1 .1 .1 .0) o w (t .kept .1 .1 .1 .0 ∙ zeros-cut 13 (c .before .before .before .before .before .before .before .before .before .before .before .before .before .before .before .before .before .before .before .before .before .before .before .before .before .before .before .args .inputs) (c .before .before .before .before .before .before .before .before .before .before .before .before .before .before .before .before .before .before .before .before .before .before .before .before .before .no-inputs .result) (c .before .before .before .before .before .before .before .before .before .before .before .before .before .before .before .before .before .before .before .before .before .before .before .before .before .no-inputs .ensures) (c .before .before .before .before .before .before .before .before .before .before .before .before .before .before .before .before .before .before .before .before .before .before .before .before .before .before .before .pre .inputs-most)) (t .kept .1 .1 .1 .1 .0 ∙ zeros-cut 13 (c .before .before .before .before .before .before .before .before .before .before .before .before .before .before .before .before .before .before .before .before .before .before .before .before .before .before .before .args .inputs) (c .before .before .before .before .before .before .before .before .before .before .before .before .before .before .before .before .before .before .before .before .before .before .before .before .no-flags .result) (c .before .before .before .before .before .before .before .before .before .before .before .before .before .before .before .before .before .before .before .before .before .before .before .before .no-flags .ensures) (c .before .before .before .before .before .before .before .before .before .before .before .before .before .before .before .before .before .before .before .before .before .before .before .before .before .before .before .pre .inputs-most)) (t .kept .1 .1 .1 .1 .1 .0 ∙ zeros-cut 10 (c .before .before .before .before .before .before .before .before .before .before .before .before .before .before .before .before .before .before .before .before .before .before .before .before .before .before .before .args .latches) (c .before .before .before .before .before .before .before .before .before .before .before .before .before .before .before .before .before .before .before .before .before .before .before .no-latches .result) (c .before .before .before .before .before .before .before .before .before .before .before .before .before .before .before .before .before .before .before .before .before .before .before .no-latches .ensures) (c .before .before .before .before .before .before .before .before .before .before .before .before .before .before .before .before .before .before .before .before .before .before .before .before .before .before .before .pre .latches-most)) (t .kept .1 .1 .1 .1 .1 .1 .0 ∙ zeros-cut 10 (c .before .before .before .before .before .before .before .before .before .before .before .before .before .before .before .before .before .before .before .before .before .before .before .before .before .before .before .args .latches) (c .before .before .before .before .before .before .before .before .before .before .before .before .before .before .before .before .before .before .before .before .before .before .no-latches2 .result) (c .before .before .before .before .before .before .before .before .before .before .before .before .before .before .before .before .before .before .before .before .before .before .no-latches2 .ensures) (c .before .before .before .before .before .before .before .before .before .before .before .before .before .before .before .before .before .before .before .before .before .before .before .before .before .before .before .pre .latches-most)) (t .kept .1 .1 .1 .1 .1 .1 .1 .0 ∙ zeros-cut 1000 (c .before .before .before .before .before .before .before .before .before .before .before .before .before .before .before .before .before .before .before .before .before .before .before .before .before .before .before .args .gates) (c .before .before .before .before .before .before .before .before .before .before .before .before .before .before .before .before .before .before .before .before .before .no-gates .result) (c .before .before .before .before .before .before .before .before .before .before .before .before .before .before .before .before .before .before .before .before .before .no-gates .ensures) (c .before .before .before .before .before .before .before .before .before .before .before .before .before .before .before .before .before .before .before .before .before .before .before .before .before .before .before .pre .gates-most)) (t .kept .1 .1 .1 .1 .1 .1 .1 .1 .0 ∙ zeros-cut 1000 (c .before .before .before .before .before .before .before .before .before .before .before .before .before .before .before .before .before .before .before .before .before .before .before .before .before .before .before .args .gates) (c .before .before .before .before .before .before .before .before .before .before .before .before .before .before .before .before .before .before .before .before .no-gates2 .result) (c .before .before .before .before .before .before .before .before .before .before .before .before .before .before .before .before .before .before .before .before .no-gates2 .ensures) (c .before .before .before .before .before .before .before .before .before .before .before .before .before .before .before .before .before .before .before .before .before .before .before .before .before .before .before .pre .gates-most)) (t .kept .1 .1 .1 .1 .1 .1 .1 .1 .1 .0 ∙ zeros-cut 1000 (c .before .before .before .before .before .before .before .before .before .before .before .before .before .before .before .before .before .before .before .before .before .before .before .before .before .before .before .args .gates) (c .before .before .before .before .before .before .before .before .before .before .before .before .before .before .before .before .before .before .before .no-gates3 .result) (c .before .before .before .before .before .before .before .before .before .before .before .before .before .before .before .before .before .before .before .no-gates3 .ensures) (c .before .before .before .before .before .before .before .before .before .before .before .before .before .before .before .before .before .before .before .before .before .before .before .before .before .before .before .pre .gates-most)) (p .inputs-most) (p .latches-most) (p .gates-most) (record { largest = a .m; inputs = a .inputs; latches = a .latches; gates = a .gates; input = t .last .1 .1 .1 .0 ++ drop (a .inputs) (c .before .before .before .before .before .before .before .before .before .before .before .before .before .before .before .before .before .before .before .before .before .before .before .before .before .no-inputs .result); controllable = t .last .1 .1 .1 .1 .0 ++ drop (a .inputs) (c .before .before .before .before .before .before .before .before .before .before .before .before .before .before .before .before .before .before .before .before .before .before .before .before .no-flags .result); latch = t .last .1 .1 .1 .1 .1 .0 ++ drop (a .latches) (c .before .before .before .before .before .before .before .before .before .before .before .before .before .before .before .before .before .before .before .before .before .before .before .no-latches .result); next = t .last .1 .1 .1 .1 .1 .1 .0 ++ drop (a .latches) (c .before .before .before .before .before .before .before .before .before .before .before .before .before .before .before .before .before .before .before .before .before .before .no-latches2 .result); output = o; gate = t .last .1 .1 .1 .1 .1 .1 .1 .0 ++ drop (a .gates) (c .before .before .before .before .before .before .before .before .before .before .before .before .before .before .before .before .before .before .before .before .before .no-gates .result); left = t .last .1 .1 .1 .1 .1 .1 .1 .1 .0 ++ drop (a .gates) (c .before .before .before .before .before .before .before .before .before .before .before .before .before .before .before .before .before .before .before .before .no-gates2 .result); right = t .last .1 .1 .1 .1 .1 .1 .1 .1 .1 .0 ++ drop (a .gates) (c .before .before .before .before .before .before .before .before .before .before .before .before .before .before .before .before .before .before .before .no-gates3 .result) }) refl refl refl refl refl (ap (λ (z : List ℕ). t .last .1 .1 .1 .0 ++ drop (a .inputs) z) (c .before .before .before .before .before .before .before .before .before .before .before .before .before .before .before .before .before .before .before .before .before .before .before .before .before .no-inputs .ensures)) (ap (λ (z : List ℕ). t .last .1 .1 .1 .1 .0 ++ drop (a .inputs) z) (c .before .before .before .before .before .before .before .before .before .before .before .before .before .before .before .before .before .before .before .before .before .before .before .before .no-flags .ensures)) (ap (λ (z : List ℕ). t .last .1 .1 .1 .1 .1 .0 ++ drop (a .latches) z) (c .before .before .before .before .before .before .before .before .before .before .before .before .before .before .before .before .before .before .before .before .before .before .before .no-latches .ensures)) (ap (λ (z : List ℕ). t .last .1 .1 .1 .1 .1 .1 .0 ++ drop (a .latches) z) (c .before .before .before .before .before .before .before .before .before .before .before .before .before .before .before .before .before .before .before .before .before .before .no-latches2 .ensures)) (ap (λ (z : List ℕ). t .last .1 .1 .1 .1 .1 .1 .1 .0 ++ drop (a .gates) z) (c .before .before .before .before .before .before .before .before .before .before .before .before .before .before .before .before .before .before .before .before .before .no-gates .ensures)) (ap (λ (z : List ℕ). t .last .1 .1 .1 .1 .1 .1 .1 .1 .0 ++ drop (a .gates) z) (c .before .before .before .before .before .before .before .before .before .before .before .before .before .before .before .before .before .before .before .before .no-gates2 .ensures)) (ap (λ (z : List ℕ). t .last .1 .1 .1 .1 .1 .1 .1 .1 .1 .0 ++ drop (a .gates) z) (c .before .before .before .before .before .before .before .before .before .before .before .before .before .before .before .before .before .before .before .no-gates3 .ensures)))
     (take-at (t .last .1 .1 .1 .0) _ (a .inputs) (t .kept .1 .1 .1 .0 ∙ zeros-cut 13 (c .before .before .before .before .before .before .before .before .before .before .before .before .before .before .before .before .before .before .before .before .before .before .before .before .before .before .before .args .inputs) (c .before .before .before .before .before .before .before .before .before .before .before .before .before .before .before .before .before .before .before .before .before .before .before .before .before .no-inputs .result) (c .before .before .before .before .before .before .before .before .before .before .before .before .before .before .before .before .before .before .before .before .before .before .before .before .before .no-inputs .ensures) (c .before .before .before .before .before .before .before .before .before .before .before .before .before .before .before .before .before .before .before .before .before .before .before .before .before .before .before .pre .inputs-most))) (take-at (t .last .1 .1 .1 .1 .0) _ (a .inputs) (t .kept .1 .1 .1 .1 .0 ∙ zeros-cut 13 (c .before .before .before .before .before .before .before .before .before .before .before .before .before .before .before .before .before .before .before .before .before .before .before .before .before .before .before .args .inputs) (c .before .before .before .before .before .before .before .before .before .before .before .before .before .before .before .before .before .before .before .before .before .before .before .before .no-flags .result) (c .before .before .before .before .before .before .before .before .before .before .before .before .before .before .before .before .before .before .before .before .before .before .before .before .no-flags .ensures) (c .before .before .before .before .before .before .before .before .before .before .before .before .before .before .before .before .before .before .before .before .before .before .before .before .before .before .before .pre .inputs-most))) (c .counted .ensures)

@@ -22,23 +22,23 @@ no-gates-requires c κs = search needs
 returns : tie.Need-returns
 unfolding stored emptyCircuit
 returns c = λ x.
-    record
-    { answer = Refused (record { number = c .before .before .before .before .args .number; place = c .before .before .before .before .args .place })
-    ; circuit =
-        record
-        { largest = 0
-        ; inputs = 0
-        ; latches = 0
-        ; gates = 0
-        ; input = (c .before .before .before .no-inputs .ensures ∙ sym (padded-none 13)) x
-        ; controllable = (c .before .before .no-flags .ensures ∙ sym (padded-none 13)) x
-        ; latch = (c .before .no-latches .ensures ∙ sym (padded-none 10)) x
-        ; next = (c .before .no-latches .ensures ∙ sym (padded-none 10)) x
-        ; output = 0
-        ; gate = (c .no-gates .ensures ∙ sym (padded-none 1000)) x
-        ; left = (c .no-gates .ensures ∙ sym (padded-none 1000)) x
-        ; right = (c .no-gates .ensures ∙ sym (padded-none 1000)) x
-        }
+    record {
+      answer = Refused (record { number = c .before .before .before .before .args .number; place = c .before .before .before .before .args .place });
+      circuit =
+          record {
+            largest = 0;
+            inputs = 0;
+            latches = 0;
+            gates = 0;
+            input = (c .before .before .before .no-inputs .ensures ∙ sym (padded-none 13)) x;
+            controllable = (c .before .before .no-flags .ensures ∙ sym (padded-none 13)) x;
+            latch = (c .before .no-latches .ensures ∙ sym (padded-none 10)) x;
+            next = (c .before .no-latches .ensures ∙ sym (padded-none 10)) x;
+            output = 0;
+            gate = (c .no-gates .ensures ∙ sym (padded-none 1000)) x;
+            left = (c .no-gates .ensures ∙ sym (padded-none 1000)) x;
+            right = (c .no-gates .ensures ∙ sym (padded-none 1000)) x;
+          };
     }
 
 pub refused-spec : {M : Type 1} → statement M

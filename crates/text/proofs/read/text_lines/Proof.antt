@@ -22,20 +22,20 @@ body-lines-requires : tie.Need-body-lines-requires
 body-lines-requires c κs =
     let a = c .before .before .before .before .before .before .before .before .before .before .before .before .before .before .before .before .args in
     let p = c .before .before .before .before .before .before .before .before .before .before .before .before .before .before .before .before .pre in
-    record
-    { first =
-        record
-        { within = p .within
-        ; largest = p .largest
-        ; marks-all = ap length (c .before .before .before .before .before .before .before .no-marks .ensures) ∙ length-table (λ i. 0) 1001
-        ; marks-none = λ i. ap (λ (l : List ℕ). getD l i 0) (c .before .before .before .before .before .before .before .no-marks .ensures) ∙ zeros-at 1001 i
-        ; inputs = p .inputs
-        ; latches = p .latches
-        ; nexts = p .nexts
-        }
-    ; gates = p .gates
-    ; lefts = p .lefts
-    ; rights = p .rights
+    record {
+      first =
+          record {
+            within = p .within;
+            largest = p .largest;
+            marks-all = ap length (c .before .before .before .before .before .before .before .no-marks .ensures) ∙ length-table (λ i. 0) 1001;
+            marks-none = λ i. ap (λ (l : List ℕ). getD l i 0) (c .before .before .before .before .before .before .before .no-marks .ensures) ∙ zeros-at 1001 i;
+            inputs = p .inputs;
+            latches = p .latches;
+            nexts = p .nexts;
+          };
+      gates = p .gates;
+      lefts = p .lefts;
+      rights = p .rights;
     }
 
 enum-known-r : tie.Need-enum-known-r
@@ -50,13 +50,13 @@ name-lines-requires c κs =
     let p = c .before .before .before .before .before .before .before .before .before .before .before .before .before .before .before .before .before .before .before .before .before .before .before .before .before .before .before .before .before .before .before .before .before .before .pre in
     let y = c .before .before .before .before .before .before .before .before .before .before .before .before .before .before .before .before .before .body-lines in
     let w = subst (BodiedAs (headerWith (a .m) (length (a .input .now)) (length (a .latch .now)) (length (a .gate .now))) (a .s .now) (a .from) (y .last .1 .1 .1 .1 .0) (y .last .1 .1 .1 .1 .1 .0) (y .last .1 .1 .1 .1 .1 .1 .0) (y .last .1 .1 .1 .1 .1 .1 .1 .0) (y .last .1 .1 .1 .1 .1 .1 .1 .1 .0) (y .last .1 .1 .1 .1 .1 .1 .1 .1 .1 .0)) (c .before .before .at .given .1) (y .ensures) in
-    record
-    { within = w .within
-    ; inputs-most = omega (arith, y .kept .1 .1 .1 .1 .0, p .inputs)
-    ; latches-most = omega (arith, y .kept .1 .1 .1 .1 .1 .0, p .latches)
-    ; gates-most = omega (arith, y .kept .1 .1 .1 .1 .1 .1 .1 .0, p .gates)
-    ; flags-all = p .flags-all ∙ sym (y .kept .1 .1 .1 .1 .0)
-    ; flags-none = p .flags-none
+    record {
+      within = w .within;
+      inputs-most = omega (arith, y .kept .1 .1 .1 .1 .0, p .inputs);
+      latches-most = omega (arith, y .kept .1 .1 .1 .1 .1 .0, p .latches);
+      gates-most = omega (arith, y .kept .1 .1 .1 .1 .1 .1 .1 .0, p .gates);
+      flags-all = p .flags-all ∙ sym (y .kept .1 .1 .1 .1 .0);
+      flags-none = p .flags-none;
     }
 
 same-length : tie.Need-same-length
@@ -78,7 +78,7 @@ same-length-6 : tie.Need-same-length-6
 same-length-6 c = search needs
 
 returns : tie.Need-returns
-returns c = 
+returns c =
     let a = c .before .before .before .before .before .before .before .before .before .before .before .before .before .before .before .before .before .before .before .before .before .before .before .before .before .before .before .before .before .before .before .before .before .args in
     let p = c .before .before .before .before .before .before .before .before .before .before .before .before .before .before .before .before .before .before .before .before .before .before .before .before .before .before .before .before .before .before .before .before .before .pre in
     let y = c .before .before .before .before .before .before .before .before .before .before .before .before .before .before .before .before .body-lines in
@@ -107,7 +107,7 @@ same-length-13 : tie.Need-same-length-13
 same-length-13 c = search needs
 
 returns-2 : tie.Need-returns-2
-returns-2 c = 
+returns-2 c =
     let a = c .before .before .before .before .before .before .before .before .before .before .before .before .before .before .before .before .before .before .before .before .before .before .before .before .before .before .before .before .before .before .before .before .before .before .before .before .before .args in
     let p = c .before .before .before .before .before .before .before .before .before .before .before .before .before .before .before .before .before .before .before .before .before .before .before .before .before .before .before .before .before .before .before .before .before .before .before .before .before .pre in
     let y = c .before .before .before .before .before .before .before .before .before .before .before .before .before .before .before .before .before .before .before .before .body-lines in

@@ -9,17 +9,17 @@ controllables-requires : tie.Need-controllables-requires
 controllables-requires c κs = search needs
 
 returns : tie.Need-returns
-returns c = 
+returns c =
     let a = c .before .before .before .before .args in
     too-many-controllable (a .input .now) (a .flags .now) (c .before .controllables .result) (c .before .controllables .ensures) (c .if1 .taken)
 
 sub-result : tie.Need-sub-result
-sub-result c = 
+sub-result c =
     let a = c .before .before .before .before .args in
     counted-most (a .input .now) (a .flags .now) (c .before .controllables .result) (c .before .controllables .ensures)
 
 returns-2 : tie.Need-returns-2
-returns-2 c = 
+returns-2 c =
     let a = c .before .before .before .before .args in
     not-too-many (a .input .now) (a .flags .now) (c .before .controllables .result) (c .before .controllables .ensures) (c .if1 .left)
 
