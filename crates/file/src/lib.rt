@@ -6,5 +6,5 @@ ghost use Rattle.file.specs.CircuitIn.{circuitIn};
 pub fn read(file: &[u8]) -> circuit::FileRead
     ensures { λ r. ⌜ ReadAs (circuitIn (now (file .entry))) r ⌝ }
 {
-    text::read::read(file)
+    reader::read::read(file)
 }

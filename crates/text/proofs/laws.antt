@@ -1,18 +1,5 @@
 pub mod Alarms
-pub mod Judged
 pub mod Used
-pub mod Position
-pub mod SectionLoop
-pub mod PositionNumber
-pub mod PositionFields
-pub mod PositionSymbol
-pub mod SymbolHere
-pub mod SymbolLoop
-pub mod BodyLoop
-pub mod LinesLoop
-pub mod TextLoop
-pub mod ReadLoop
-pub mod FileLoop
 pub mod Outcome
 pub mod Lists
 pub mod Run
@@ -38,4 +25,3 @@ pub mod Size
 pub mod PrintedReadsBack
 pub mod Decimal
 pub mod PrintedNames
-pub mod UsedLoop

@@ -1,0 +1,10 @@
+-- `reader::read::no_names` meets its contract: the same number everywhere. Assumes nothing.
+use Rattle.below.proofs.laws.Filled.{replicate-table}
+use Rattle.reader.proofs.read.no_names.Statement.{statement}
+use Rattle.reader.proofs.read.no_names.Tie as tie
+
+returns : tie.Need-returns
+returns c = replicate-table 24 0
+
+pub no-names-spec : {M : Type 1} → statement M
+no-names-spec = tie.close (tie.spec returns)

@@ -1,0 +1,47 @@
+-- `reader::read::refused` meets its contract: the empty circuit is all zeros. Assumes nothing.
+use borrow.Author.Needs.{needs}
+use mathlib.Core.Path.{_≡_, refl, sym, ap, _∙_, subst}
+use Rattle.circuit.specs.Stored.{stored, emptyCircuit}
+use Rattle.circuit.specs.declared.Read.the-variants.{Refused}
+use Rattle.reader.proofs.laws.ReadLoop.{padded-none}
+use Rattle.reader.proofs.read.refused.Statement.{statement}
+use Rattle.reader.proofs.read.refused.Tie as tie
+
+no-inputs-requires : tie.Need-no-inputs-requires
+no-inputs-requires c κs = search needs
+
+no-flags-requires : tie.Need-no-flags-requires
+no-flags-requires c κs = search needs
+
+no-latches-requires : tie.Need-no-latches-requires
+no-latches-requires c κs = search needs
+
+no-gates-requires : tie.Need-no-gates-requires
+no-gates-requires c κs = search needs
+
+returns : tie.Need-returns
+unfolding stored emptyCircuit
+returns c = λ x.
+    record {
+      answer = Refused (record { number = c .before .before .before .before .args .number; place = c .before .before .before .before .args .place });
+      circuit =
+          record {
+            largest = 0;
+            inputs = 0;
+            latches = 0;
+            gates = 0;
+            input = (c .before .before .before .no-inputs .ensures ∙ sym (padded-none 13)) x;
+            controllable = (c .before .before .no-flags .ensures ∙ sym (padded-none 13)) x;
+            latch = (c .before .no-latches .ensures ∙ sym (padded-none 10)) x;
+            next = (c .before .no-latches .ensures ∙ sym (padded-none 10)) x;
+            output = 0;
+            gate = (c .no-gates .ensures ∙ sym (padded-none 1000)) x;
+            left = (c .no-gates .ensures ∙ sym (padded-none 1000)) x;
+            right = (c .no-gates .ensures ∙ sym (padded-none 1000)) x;
+          };
+    }
+
+pub refused-spec : {M : Type 1} → statement M
+refused-spec =
+    tie.close
+    (tie.spec no-inputs-requires no-flags-requires no-latches-requires no-gates-requires returns)

@@ -1,0 +1,39 @@
+-- What the code's answers say of the header and of a file from its header on (01, "The numbers"). Assumes nothing.
+use Prim.Native.Nat.{ℕ, _+_, _≤_}
+use mathlib.Core.List.{List, [], _∷_}
+use mathlib.Core.Option.{none, some}
+use mathlib.Core.Path.{_≡_}
+use lib.ListN.{length, drop}
+use Rattle.circuit.specs.Answer.{ReadAs}
+use Rattle.circuit.specs.Circuit.{Circuit, tooMany}
+use Rattle.circuit.specs.Limits.{Limits, base}
+use Rattle.circuit.specs.Outcome.{Outcome, taken, refused, _>>=_, _>>_, refuseIf}
+use Rattle.circuit.specs.declared.FileRead.{FileRead}
+use Rattle.reader.specs.declared.fields.Row.{Row}
+use Rattle.reader.specs.declared.fields.Row.the-variants.{Of, Bad}
+use Rattle.text.specs.Header.{Header, headerNumbers}
+use Rattle.text.specs.Line.{lines}
+use Rattle.text.specs.Numbers.{tooManyInputs}
+use Rattle.text.specs.Read.{linesRead}
+use Rattle.reader.specs.RowAt.{Small}
+use Rattle.text.specs.TextFile.{TextFile, circuitOf}
+
+-- the header's five numbers
+abbrev pub HeaderAs : (line : List ℕ) → Row → Type 0
+HeaderAs line (Of a b c d e) = (headerNumbers line ≡ some (a ∷ b ∷ c ∷ d ∷ e ∷ [])) × Small a b c d e
+HeaderAs line Bad = headerNumbers line ≡ none
+
+-- number 9, and then the circuit
+unfoldable pub circuitOfLines : Outcome TextFile → Outcome Circuit
+circuitOfLines o = o >>= λ f. refuseIf (tooMany base (circuitOf f)) tooManyInputs 0 >> taken (circuitOf f)
+
+abbrev pub LinesAs : Header → (bytes : List ℕ) (at : ℕ) → FileRead → Type 0
+LinesAs h bytes at r = ReadAs (circuitOfLines (linesRead h (lines (drop at bytes)))) r
+
+-- a header within the limits
+pub record LinesRoom (bytes : List ℕ) (at M inputs latches gates : ℕ) : Type 0 where
+  pub within : at ≤ length bytes
+  pub largest : M ≤ base .variable
+  pub inputs-most : inputs ≤ base .inputs
+  pub latches-most : latches ≤ base .latches
+  pub gates-most : gates ≤ base .variable

@@ -1,0 +1,36 @@
+-- What the code's answer says of all that stands behind the gates (01, "The file", rules 5 and 6). Assumes nothing.
+use Prim.Native.Nat.{ℕ, _+_, _^_, _≤_, _<_}
+use mathlib.Core.List.{List, []}
+use mathlib.Core.Option.{Option}
+use mathlib.Core.Path.{_≡_}
+use lib.ListN.{length, getD, drop}
+use Rattle.circuit.specs.Limits.{base}
+use Rattle.circuit.specs.Outcome.{taken, refused}
+use Rattle.reader.specs.declared.body.Sectioned.{Sectioned}
+use Rattle.reader.specs.declared.body.Sectioned.the-variants.{Done, Refused}
+use Rattle.text.specs.Line.{lines}
+use Rattle.text.specs.Symbol.{Symbol, symbolLines}
+use Rattle.reader.specs.SymbolAs.{Flags, counted}
+
+-- what reading the symbols may count on: counts within the limits, nothing marked yet, a place within the file
+pub record SymbolRoom (file : List ℕ) (at place inputs latches : ℕ) (marks flags : List ℕ) : Type 0 where
+  pub within : at ≤ length file
+  pub places : place < 2 ^ 32
+  pub inputs-most : inputs ≤ base .inputs
+  pub latches-most : latches ≤ base .latches
+  pub marks-all : length marks ≡ base .inputs + base .latches + base .outputs
+  pub marks-none : (i : ℕ) → getD marks i 0 ≡ 0
+  pub flags-all : length flags ≡ inputs
+  pub flags-none : (i : ℕ) → getD flags i 0 ≡ 0
+
+-- the symbols were read, and the flags say which inputs they make controllable
+pub record SymbolsRead (inputs latches place : ℕ) (file : List ℕ) (at : ℕ) (flags : List ℕ) : Type 0 where
+  pub symbols : List Symbol
+  pub comment : Option (List ℕ)
+  pub whole : symbolLines (counted inputs latches) place [] (lines (drop at file)) ≡ taken (record { symbols = symbols; comment = comment })
+  pub flagged : Flags inputs flags symbols
+
+abbrev pub SymbolsAs : (inputs latches place : ℕ) (file : List ℕ) (at : ℕ) (flags : List ℕ) → Sectioned → Type 0
+SymbolsAs inputs latches place file at flags (Done next) = SymbolsRead inputs latches place file at flags
+SymbolsAs inputs latches place file at flags (Refused r) =
+    symbolLines (counted inputs latches) place [] (lines (drop at file)) ≡ refused (r .number) (r .place)
