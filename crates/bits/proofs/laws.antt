@@ -2,3 +2,4 @@ pub mod Digits
 pub mod Bit
 pub mod ByteBit
 pub mod Bytes
+pub mod SameBytes
