@@ -1,25 +1,23 @@
 -- `bits::bytes::low_bits` meets its contract: the mask keeps the lowest bits, and a number of 64 bits has no more. Assumes nothing.
-use Prim.Native.Nat.{ℕ, _-_, _*_, _%_, _^_, _<_, _≤_}
+use Prim.Native.Nat.{_^_, _<_, _≤_}
 use native.Mathlib.Omega.{arith}
-use native.Mathlib.Nat.{one-mul, mod-eq-of-lt}
-use mathlib.Core.Path.{_≡_, sym, ap, _∙_}
+use native.Mathlib.Nat.{mod-eq-of-lt}
+use mathlib.Core.Path.{sym}
 use borrow.Author.Needs.{needs}
-use lib.Bits.{bitAnd, and-mask}
-use lib.Pow.{pow-lt, pow-pos, pow-mono}
+use lib.Bits.{and-mask}
+use lib.Pow.{pow-pos, pow-mono}
+use Rattle.bits.proofs.laws.Shift.{power-by-shift}
 use Rattle.bits.proofs.bytes.low_bits.Statement.{statement}
 use Rattle.bits.proofs.bytes.low_bits.Tie as tie
-
-shifted : (width : ℕ) → width < 64 → 1 * 2 ^ width % 2 ^ 64 ≡ 2 ^ width
-shifted width h = rw one-mul (mod-eq-of-lt (pow-lt {i = width} {j = 64} h))
 
 shl-result : tie.Need-shl-result
 shl-result c = search needs
 
 sub-result : tie.Need-sub-result
-sub-result c = rw (shifted (c .before .args .width) (c .if1 .taken)) (pow-pos (c .before .args .width))
+sub-result c = rw (power-by-shift (c .before .args .width) (c .if1 .taken)) (pow-pos (c .before .args .width))
 
 returns : tie.Need-returns
-returns c = rw (shifted (c .before .args .width) (c .if1 .taken)) (and-mask (c .before .args .n) (c .before .args .width))
+returns c = rw (power-by-shift (c .before .args .width) (c .if1 .taken)) (and-mask (c .before .args .n) (c .before .args .width))
 
 returns-2 : tie.Need-returns-2
 returns-2 c =
