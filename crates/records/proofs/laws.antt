@@ -1,3 +1,4 @@
 pub mod Record
 pub mod RecordAt
 pub mod ReplyBytes
+pub mod Shape

@@ -2,6 +2,7 @@
 // A certificate's shape and its first record; then what the tables store.
 pub mod record;
 pub mod stored;
+pub mod tables;
 
 // A record at a place: its kind and where its contents start and end, or that it is cut short.
 pub enum RecordAt {

@@ -26,12 +26,10 @@ pub fn record_at(bytes: &[u8], at: usize) -> RecordAt
     if room - HEAD < contents {
         return RecordAt::Cut;
     }
+    let kind = two_at(bytes, at + 4);
     let start = at + HEAD;
-    RecordAt::Whole {
-        kind: kind_at(bytes, at),
-        start,
-        end: start + contents,
-    }
+    let end = start + contents;
+    RecordAt::Whole { kind, start, end }
 }
 
 // The circuit record, as that part of the lent certificate; nothing where the first record is cut short or of another kind.
@@ -47,7 +45,7 @@ pub fn circuit_record(certificate: &[u8]) -> &[u8]
     &certificate[start..end]
 }
 
-// The length of the contents, and the kind, of a record whose head is there.
+// The length of the contents of a record whose head is there.
 fn contents_length(bytes: &[u8], at: usize) -> usize
     requires { ⌜ at + 6 ≤ length (now bytes) ⌝ }
     ensures { λ r. ⌜ r ≡ contentsLength (drop at (now (bytes .entry))) ⌝ }
@@ -55,13 +53,6 @@ fn contents_length(bytes: &[u8], at: usize) -> usize
     let low = two_at(bytes, at) as usize;
     let high = two_at(bytes, at + 2) as usize;
     low + 65536 * high
-}
-
-fn kind_at(bytes: &[u8], at: usize) -> u16
-    requires { ⌜ at + 6 ≤ length (now bytes) ⌝ }
-    ensures { λ r. ⌜ r ≡ sum 256 (take 2 (drop 4 (drop at (now (bytes .entry))))) ⌝ }
-{
-    two_at(bytes, at + 4)
 }
 
 // Two bytes as a number, the lower first.
