@@ -1,3 +1,4 @@
 pub mod Least
 pub mod Table
 pub mod Count
+pub mod Take

@@ -6,3 +6,4 @@ pub mod SameBytes
 pub mod Shift
 pub mod AllBelow
 pub mod Sum
+pub mod Halves

@@ -1,1 +1,3 @@
 pub mod SameCircuit
+pub mod StoredLiteral
+pub mod Counted

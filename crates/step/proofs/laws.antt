@@ -1,2 +1,3 @@
 pub mod Alarms
+pub mod Value
 pub mod Step

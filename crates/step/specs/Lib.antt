@@ -1,2 +1,4 @@
 pub mod Value
+pub mod Truths
+pub mod NextIn
 pub mod Step

@@ -3,10 +3,10 @@ use Prim.Native.Nat.{ℕ, zero, suc, _+_, _<_, _≤_}
 use native.Mathlib.Omega.{arith}
 use native.Mathlib.Nat.{not-suc-le-zero, add-zero}
 use native.Mathlib.Decide.{decLt}
-use mathlib.Core.List.{List, [], _∷_, _++_}
+use mathlib.Core.List.{List, [], _∷_, _++_, map, map-append}
 use mathlib.Core.Path.{_≡_, refl, sym, ap, _∙_}
-use lib.ListN.{length, getD, length-append, List·getD-append, List·getD-eq-default}
-use lib.Seq.{getD-at}
+use lib.ListN.{length, getD, drop, length-append, drop-of-length-le, List·getD-append, List·getD-eq-default}
+use lib.Seq.{getD-at, drop-cons}
 use Rattle.below.specs.Table.{table}
 
 module _ {ℓ} {A : Type ℓ} where
@@ -25,3 +25,15 @@ module _ {ℓ} {A : Type ℓ} where
 
   pub getD-table-past : (f : ℕ → A) (n i : ℕ) (d : A) → n ≤ i → getD (table f n) i d ≡ d
   getD-table-past f n i d h = List·getD-eq-default (table f n) d (omega (arith, length-table f n))
+
+  -- what is left of a table at a place: what stands there, and what is left behind it
+  pub drop-table : (f : ℕ → A) (n i : ℕ) → i < n → drop i (table f n) ≡ f i ∷ drop (suc i) (table f n)
+  drop-table f n i h = drop-cons (table f n) i (f i) (omega (arith, length-table f n)) ∙ ap (λ (a : A). a ∷ drop (suc i) (table f n)) (getD-table f n i (f i) h)
+
+  pub drop-table-all : (f : ℕ → A) (n i : ℕ) → n ≤ i → drop i (table f n) ≡ []
+  drop-table-all f n i h = drop-of-length-le (table f n) {i = i} (omega (arith, length-table f n))
+
+pub map-table {ℓ κ} : {A : Type ℓ} {B : Type κ} (g : A → B) (f : ℕ → A) (n : ℕ) → map g (table f n) ≡ table (λ i. g (f i)) n
+unfolding table
+map-table g f zero = refl
+map-table {B = B} g f (suc n) = map-append g (table f n) (f n ∷ []) ∙ ap (λ (l : List B). l ++ (g (f n) ∷ [])) (map-table g f n)

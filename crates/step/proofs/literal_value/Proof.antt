@@ -1,0 +1,45 @@
+-- `step::literal_value` meets its contract: a constant is its own truth, another literal that of its variable, or the inverse.
+use mathlib.Core.Bool.{not}
+use mathlib.Core.Path.{sym, ap, _∙_}
+use borrow.Author.Needs.{needs}
+use Rattle.step.specs.Truths.{truths}
+use Rattle.step.proofs.laws.Value.{value-constant, value-inverted, value-plain}
+use Rattle.step.proofs.literal_value.Statement.{statement}
+use Rattle.step.proofs.literal_value.Tie as tie
+use Rattle.step.proofs.literal_value.Reads as reads
+use Rattle.step.proofs.is_odd.Reads as is-odd-reads
+use Rattle.step.proofs.truth_at.Reads as truth-at-reads
+use Rattle.step.proofs.literal_value.Lts as lts
+
+is-odd-requires : tie.Need-is-odd-requires
+is-odd-requires c κs = search needs
+
+returns : tie.Need-returns
+returns c = let a = c .before .before .before .args in c .is-odd .ensures ∙ sym (value-constant (truths (a .values .now)) (a .l) (search needs))
+
+cast-truth-at : tie.Need-cast-truth-at
+cast-truth-at c = search needs
+
+truth-at-requires : tie.Need-truth-at-requires
+truth-at-requires c κs = search needs
+
+is-odd-requires-2 : tie.Need-is-odd-requires-2
+is-odd-requires-2 c κs = search needs
+
+returns-2 : tie.Need-returns-2
+returns-2 c = let a = c .before .before .before .before .before .args in ap not (c .before .before .truth-at .ensures) ∙ sym (value-inverted (truths (a .values .now)) (a .l) (search needs) (sym (c .before .is-odd2 .ensures) ∙ c .if2 .taken))
+
+returns-3 : tie.Need-returns-3
+returns-3 c = let a = c .before .before .before .before .before .args in c .before .before .truth-at .ensures ∙ sym (value-plain (truths (a .values .now)) (a .l) (search needs) (sym (c .before .is-odd2 .ensures) ∙ c .if2 .left))
+
+pub literal-value-spec : {M : Type 1} → statement M
+literal-value-spec =
+    tie.close
+    (tie.spec
+    is-odd-requires
+    returns
+    cast-truth-at
+    truth-at-requires
+    is-odd-requires-2
+    returns-2
+    returns-3)

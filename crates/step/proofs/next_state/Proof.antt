@@ -1,0 +1,91 @@
+-- `step::next_state` meets its contract: the bits from i on add up to the state, and i counts down to 0.
+use Prim.Native.Nat.{ℕ, suc, _+_, _*_, _-_}
+use native.Mathlib.Omega.{arith}
+use mathlib.Core.Path.{_≡_, ap, _∙_, subst}
+use lib.ListN.{getD}
+use borrow.Author.Needs.{needs}
+use Rattle.bits.specs.Bit.{oneIf}
+use Rattle.circuit.specs.Stored.{literalOf}
+use Rattle.step.specs.Truths.{truths}
+use Rattle.step.specs.Value.{literalValue}
+use Rattle.step.proofs.laws.Value.{Bits, nextBit, bits-start, bits-next, bits-end, bits-fit, one-if-bit}
+use Rattle.step.proofs.next_state.Statement.{statement}
+use Rattle.step.proofs.next_state.Tie as tie
+use Rattle.step.proofs.next_state.Reads as reads
+use Rattle.step.proofs.latches_of.Reads as latches-of-reads
+use Rattle.step.proofs.literal_at.Reads as literal-at-reads
+use Rattle.step.proofs.literal_value.Reads as literal-value-reads
+use Rattle.step.proofs.one_if.Reads as one-if-reads
+use Rattle.step.proofs.next_state.Lts as lts
+
+abbrev Inv-loop : tie.InvT-loop
+Inv-loop values latch next state₀ i₀ state i = Bits latch next (truths values) i state
+
+abbrev μ-loop : tie.MeasureT-loop
+μ-loop values latch next state₀ i₀ state i = i
+
+latches-of-requires : tie.Need-latches-of-requires Inv-loop μ-loop
+latches-of-requires c κs = search needs
+
+loop-holds : tie.Need-loop-holds Inv-loop μ-loop
+loop-holds c = let a = c .before .before .before .before .args in rw (c .latches-of .ensures) (bits-start (a .latch .now) (a .next .now) (truths (a .values .now)))
+
+sub-i : tie.Need-sub-i Inv-loop μ-loop
+sub-i c = search needs
+
+literal-at-requires : tie.Need-literal-at-requires Inv-loop μ-loop
+literal-at-requires c κs = search needs
+
+literal-value-requires : tie.Need-literal-value-requires Inv-loop μ-loop
+literal-value-requires c κs = search needs
+
+one-if-requires : tie.Need-one-if-requires Inv-loop μ-loop
+one-if-requires c κs = search needs
+
+mul-state : tie.Need-mul-state Inv-loop μ-loop
+mul-state c = let a = c .before .before .before .before .before .before .before .before .before .args in
+    let l = c .before .before .before .before .loop in
+    omega (arith, bits-fit (a .latch .now) (a .next .now) (truths (a .values .now)) (l .i) (l .state) (l .inv))
+
+cast-state : tie.Need-cast-state Inv-loop μ-loop
+cast-state c = omega (arith, c .one-if .ensures, one-if-bit (c .before .literal-value .result))
+
+add-state : tie.Need-add-state Inv-loop μ-loop
+add-state c = let a = c .before .before .before .before .before .before .before .before .before .args in
+    let l = c .before .before .before .before .loop in
+    omega (arith, bits-fit (a .latch .now) (a .next .now) (truths (a .values .now)) (l .i) (l .state) (l .inv), c .one-if .ensures, one-if-bit (c .before .literal-value .result))
+
+loop-less : tie.Need-loop-less Inv-loop μ-loop
+loop-less c = search needs
+
+loop-again : tie.Need-loop-again Inv-loop μ-loop
+unfolding nextBit
+loop-again c = let a = c .before .before .before .before .before .before .before .before .before .args in
+    let l = c .before .before .before .before .loop in
+    let val = truths (a .values .now) in
+    let bit : c .one-if .result ≡ oneIf (literalValue val (literalOf (getD (a .next .now) (l .i - 1) 0))) = c .one-if .ensures ∙ ap oneIf (c .before .literal-value .ensures ∙ ap (literalValue val) (c .before .before .literal-at .ensures)) in
+    rw bit (bits-next (a .latch .now) (a .next .now) val (l .i - 1) (l .state) (subst (λ (n : ℕ). Bits (a .latch .now) (a .next .now) val n (l .state)) (omega arith) (l .inv)))
+
+returns : tie.Need-returns Inv-loop μ-loop
+returns c = let a = c .before .before .before .before .before .before .args in
+    let l = c .before .loop in
+    bits-end (a .latch .now) (a .next .now) (truths (a .values .now)) (l .state) (subst (λ (n : ℕ). Bits (a .latch .now) (a .next .now) (truths (a .values .now)) n (l .state)) (omega arith) (l .inv))
+
+pub next-state-spec : {M : Type 1} → statement M
+next-state-spec =
+    tie.close
+    (tie.spec
+    Inv-loop
+    μ-loop
+    latches-of-requires
+    loop-holds
+    sub-i
+    literal-at-requires
+    literal-value-requires
+    one-if-requires
+    mul-state
+    cast-state
+    add-state
+    loop-less
+    loop-again
+    returns)
