@@ -1,3 +1,4 @@
 pub mod SameCircuit
 pub mod StoredLiteral
 pub mod Counted
+pub mod Outcome

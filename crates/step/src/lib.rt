@@ -63,17 +63,59 @@ pub fn step_lent<'a>(
 pub fn step(c: Circuit, state: u16, reading: Reading, control: Control) -> Stepped
     ensures { λ r. ⌜ r ≡ stepOf (meant c) state (reading .0) (control .0) ⌝ }
 {
-    step_counted(c.inputs, &c.input, &c.controllable, c.latches, &c.latch, &c.next, c.output, c.gates, &c.gate, &c.left, &c.right, state, reading, control)
+    step_counted(
+        c.inputs,
+        &c.input,
+        &c.controllable,
+        c.latches,
+        &c.latch,
+        &c.next,
+        c.output,
+        c.gates,
+        &c.gate,
+        &c.left,
+        &c.right,
+        state,
+        reading,
+        control,
+    )
 }
 
 // Lends on what lies below the counts; a count above a list's length counts as that length.
-fn step_counted<'a>(inputs: usize, input: &'a [u16], controllable: &'a [u8], latches: usize, latch: &'a [u16], next: &'a [u16], output: u16, gates: usize, gate: &'a [u16], left: &'a [u16], right: &'a [u16], state: u16, reading: Reading, control: Control) -> Stepped
+fn step_counted<'a>(
+    inputs: usize,
+    input: &'a [u16],
+    controllable: &'a [u8],
+    latches: usize,
+    latch: &'a [u16],
+    next: &'a [u16],
+    output: u16,
+    gates: usize,
+    gate: &'a [u16],
+    left: &'a [u16],
+    right: &'a [u16],
+    state: u16,
+    reading: Reading,
+    control: Control,
+) -> Stepped
     ensures { λ r. ⌜ r ≡ stepOf (lent 0 (take inputs (now (input .entry))) (now (controllable .entry)) (take latches (now (latch .entry))) (now (next .entry)) output (take gates (now (gate .entry))) (now (left .entry)) (now (right .entry))) state (reading .0) (control .0) ⌝ }
 {
     let i = below::fewer(inputs, input.len());
     let l = below::fewer(latches, latch.len());
     let g = below::fewer(gates, gate.len());
-    step_lent(&input[..i], controllable, &latch[..l], next, output, &gate[..g], left, right, state, reading, control)
+    step_lent(
+        &input[..i],
+        controllable,
+        &latch[..l],
+        next,
+        output,
+        &gate[..g],
+        left,
+        right,
+        state,
+        reading,
+        control,
+    )
 }
 
 fn step_in<'a>(
