@@ -1,7 +1,7 @@
 pub mod Pass
 pub mod Rules
 pub mod Means
-pub mod CircuitChecked
+pub mod Stages
 pub mod Faults
 pub mod Judged
 pub mod Places

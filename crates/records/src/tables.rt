@@ -69,7 +69,7 @@ fn behind_region(certificate: &[u8], circuit: usize, region: usize, behind: usiz
     if kind != REPLIES {
         return Shape::Other;
     }
-    if end != certificate.len() {
+    if certificate.len() != end {
         return Shape::Other;
     }
     Shape::Replies {

@@ -69,7 +69,7 @@ pub fn keeps_unranked<'a>(
 ) -> bool
     ensures { λ r. ⌜ r ≡ keeps (circuitGame (lent 0 (now (input .entry)) (now (controllable .entry)) (now (latch .entry)) (now (next .entry)) output (now (gate .entry)) (now (left .entry)) (now (right .entry)))) (notRanked (storedRank (now (table .entry)) latches) bound) state reading control ⌝ }
 {
-    let t = step::step_lent(
+    let after = step::step_lent(
         input,
         controllable,
         latch,
@@ -82,11 +82,10 @@ pub fn keeps_unranked<'a>(
         Reading(reading),
         Control(control),
     );
-    if t.error {
-        false
-    } else {
-        is_unranked(table, latches, bound, t.next as usize)
+    if after.error {
+        return false;
     }
+    is_unranked(table, latches, bound, after.next as usize)
 }
 
 // Whether a state isn't of stored rank 1 to a bound.

@@ -2,7 +2,7 @@
 use mathlib.Core.Path.{_∙_}
 use lib.ListN.{take}
 use Rattle.circuit.specs.Stored.{meant}
-use Rattle.checker.proofs.laws.CircuitChecked.{largest-not-solved}
+use Rattle.checker.proofs.laws.Stages.{largest-not-solved}
 use borrow.Author.Needs.{needs}
 use Rattle.checker.proofs.check_circuit.Statement.{statement}
 use Rattle.checker.proofs.check_circuit.Tie as tie

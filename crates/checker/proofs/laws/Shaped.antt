@@ -19,7 +19,7 @@ use Rattle.checker.specs.Check.{acceptedKinds}
 use Rattle.checker.specs.CircuitChecked.{circuitChecked, repliesJudged, attacksJudged}
 use Rattle.checker.specs.Counted.{Counted}
 use Rattle.checker.specs.Numbers.{badShape, otherCircuit}
-use Rattle.checker.proofs.laws.CircuitChecked.{replies-judged, attacks-judged, misshapen-refused, other-refused, same-goes-on}
+use Rattle.checker.proofs.laws.Stages.{replies-judged, attacks-judged, misshapen-refused, other-refused, same-goes-on}
 
 module _ (c : Circuit) (L U C : ℕ) (counted : Counted c L U C) (file certificate : List ℕ) where
   pub misshapen : tablesOf acceptedKinds certificate ≡ none → refused badShape 0 ≡ circuitChecked c file certificate

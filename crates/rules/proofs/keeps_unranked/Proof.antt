@@ -10,17 +10,17 @@ use Rattle.rules.proofs.keeps_unranked.Tie as tie
 step-lent-requires : tie.Need-step-lent-requires
 step-lent-requires c κs = search needs
 
-cast-is-unranked : tie.Need-cast-is-unranked
-cast-is-unranked c = search needs
-
-is-unranked-requires : tie.Need-is-unranked-requires
-is-unranked-requires c κs = search needs
-
 returns : tie.Need-returns
 returns c =
     let s = c .before in
     let a = c .before .before .before .before .before .before .before .before .before .before .args in
     error-keeps (lent 0 (a .input .now) (a .controllable .now) (a .latch .now) (a .next .now) (a .output) (a .gate .now) (a .left .now) (a .right .now)) (notRanked (storedRank (a .table .now) (a .latches)) (a .bound)) (a .state) (a .reading) (a .control) (s .step-lent .result) (s .step-lent .ensures) (c .if1 .taken)
+
+cast-is-unranked : tie.Need-cast-is-unranked
+cast-is-unranked c = search needs
+
+is-unranked-requires : tie.Need-is-unranked-requires
+is-unranked-requires c κs = search needs
 
 returns-2 : tie.Need-returns-2
 returns-2 c =
@@ -30,4 +30,4 @@ returns-2 c =
 
 pub keeps-unranked-spec : {M : Type 1} → statement M
 keeps-unranked-spec =
-    tie.close (tie.spec step-lent-requires cast-is-unranked is-unranked-requires returns returns-2)
+    tie.close (tie.spec step-lent-requires returns cast-is-unranked is-unranked-requires returns-2)

@@ -54,7 +54,7 @@ returns-3 c =
     let a = c .before .before .before .before .before .before .before .args in
     let w = c .before .before .before in
     sym (ap (λ (s : Split). shapeOf (thirdOf (replyKind ∷ []) (part headLength (a .circuit) (a .certificate .now)) (part (a .region) (a .behind) (a .certificate .now)) s)) (found w .splits)
-    ∙ ap shapeOf (third-more (part headLength (a .circuit) (a .certificate .now)) (part (a .region) (a .behind) (a .certificate .now)) (a .certificate .now) (kind w) (end w) (contents w) (found w .within) (c .if2 .taken)))
+    ∙ ap shapeOf (third-more (part headLength (a .circuit) (a .certificate .now)) (part (a .region) (a .behind) (a .certificate .now)) (a .certificate .now) (kind w) (end w) (contents w) (found w .within) (λ e. c .if2 .taken (sym e))))
 
 returns-4 : tie.Need-returns-4
 unfolding shapeOf thirdOf
@@ -70,7 +70,7 @@ returns-4 c =
     (omega (arith, length-part (w .kind .given .0 .1 .0) (end w) (a .certificate .now) (found w .within), found w))
     ∙
     sym (ap (λ (s : Split). shapeOf (thirdOf (replyKind ∷ []) (part headLength (a .circuit) (a .certificate .now)) (part (a .region) (a .behind) (a .certificate .now)) s)) (found w .splits)
-    ∙ ap shapeOf (third-is (part headLength (a .circuit) (a .certificate .now)) (part (a .region) (a .behind) (a .certificate .now)) (a .certificate .now) (kind w) (end w) (contents w) (c .before .if1 .left) (c .if2 .left)))
+    ∙ ap shapeOf (third-is (part headLength (a .circuit) (a .certificate .now)) (part (a .region) (a .behind) (a .certificate .now)) (a .certificate .now) (kind w) (end w) (contents w) (c .before .if1 .left) (sym (c .if2 .left))))
 
 pub behind-region-spec : {M : Type 1} → statement M
 behind-region-spec =
