@@ -6,7 +6,7 @@ use mathlib.Core.List.{List}
 use lib.Dec.{ltb}
 use Rattle.bits.specs.Bytes.{sameBytes}
 use Rattle.circuit.specs.Circuit.{Circuit}
-use Rattle.circuit.specs.Outcome.{Outcome, taken, refused, _>>=_, _>>_, refuseIf}
+use Rattle.circuit.specs.Outcome.{Outcome, taken, _>>=_, _>>_, refuseIf}
 use Rattle.game.specs.CircuitGame.{circuitGame}
 use Rattle.records.specs.Tables.{tablesOf, circuitPart}
 use Rattle.checker.specs.Answer.{Starts, startsOf}

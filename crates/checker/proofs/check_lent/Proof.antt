@@ -1,5 +1,4 @@
 -- `checker::check_lent` meets its contract: the shape names the tables as parts of the certificate, and they are judged. Assumes nothing.
-use native.Mathlib.Omega.{arith}
 use mathlib.Core.Path.{sym, _∙_}
 use borrow.Author.Tests.{not-true, not-false}
 use Rattle.circuit.specs.Stored.{lent}

@@ -1,15 +1,15 @@
 -- The counts of lent lists, and of lists of nothing. Assumes nothing.
-use Prim.Native.Nat.{ℕ, min, _≤_}
+use Prim.Native.Nat.{ℕ, min}
 use native.Mathlib.Omega.{arith}
 use mathlib.Core.Bool.{false, not, _||_}
 use mathlib.Core.List.{List, []}
-use mathlib.Core.Path.{_≡_, refl, sym, ap, _∙_}
+use mathlib.Core.Path.{_≡_, refl, sym, _∙_}
 use lib.Dec.{ltb}
 use lib.ListN.{length}
 use Rattle.below.specs.Table.{table}
 use Rattle.circuit.specs.Circuit.{Input, inputsThat, latchCount, uncontrollableCount, controllableCount}
 use Rattle.circuit.specs.Limits.{base}
-use Rattle.circuit.specs.Stored.{lent, inputsOf, latchesOf, gatesOf}
+use Rattle.circuit.specs.Stored.{lent, inputsOf, latchesOf}
 use Rattle.circuit.proofs.laws.Solvable.{few-are, lent-latches}
 use Rattle.checker.specs.Counted.{Counted}
 

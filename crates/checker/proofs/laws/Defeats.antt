@@ -1,7 +1,7 @@
 -- A search through the controls under a reading: one that keeps out of the ranks means no defeat, none means defeat. Assumes nothing.
 use Prim.Native.Nat.{ℕ, _^_, _<_}
-use mathlib.Core.Bool.{Bool, true, false, not}
-use mathlib.Core.Path.{_≡_, refl, sym, ap, _∙_, subst}
+use mathlib.Core.Bool.{true, false, not}
+use mathlib.Core.Path.{_≡_, sym, ap, _∙_}
 use Rattle.below.specs.Least.{any}
 use Rattle.below.proofs.laws.Least.{any-of, none-any}
 use Rattle.circuit.specs.Circuit.{Circuit, controllableCount}

@@ -3,14 +3,14 @@ use Prim.Native.Nat.{ℕ, zero, suc, _+_, _*_, _^_, _<_, _≤_}
 use native.Mathlib.Omega.{arith}
 use mathlib.Core.Bool.{Bool, true, false, not, _&&_, _||_}
 use mathlib.Core.List.{List}
-use mathlib.Core.Path.{_≡_, refl, sym, ap, ap₂, _∙_, subst}
+use mathlib.Core.Path.{_≡_, refl, sym, ap, ap₂, _∙_}
 use borrow.Author.Tests.{lt-ltb, le-ltb, eq-eqb, ne-eqb}
 use lib.Dec.{eqb, ltb}
 use lib.ListN.{length}
 use lib.Pow.{pow-add, pow-pos}
 use Rattle.below.specs.Least.{any, every}
-use Rattle.below.proofs.laws.Least.{any-of, none-any, every-of, every-at}
-use Rattle.circuit.specs.Circuit.{Circuit, latchCount, uncontrollableCount}
+use Rattle.below.proofs.laws.Least.{any-of, none-any}
+use Rattle.circuit.specs.Circuit.{Circuit, latchCount}
 use Rattle.circuit.specs.Outcome.{Outcome, taken, refused, _>>_, refuseIf}
 use Rattle.circuit.specs.Reset.{isReset}
 use Rattle.circuit.proofs.laws.Outcome.{test-refuses, test-passes}

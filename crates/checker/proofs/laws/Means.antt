@@ -1,11 +1,10 @@
 -- What a pass means, whoever made the certificate: replies that pass hold against every run of readings, attacks that pass meet the error
 -- against every strategy, and each kind decides the verdict, so that no file has both pass. Assumes nothing.
 use Prim.Native.Nat.{ℕ, _^_, _<_}
-use native.Mathlib.Omega.{arith}
 use native.Mathlib.Nat.{le-refl}
 use mathlib.Core.Bool.{Bool, true, false, true≢false}
 use mathlib.Core.List.{List, []}
-use mathlib.Core.Path.{_≡_, refl, sym, ap, _∙_, subst}
+use mathlib.Core.Path.{_≡_, refl, sym, _∙_, subst}
 use borrow.Author.Tests.{eqb-true}
 use lib.Pow.{pow-pos}
 use Rattle.bits.specs.Digits.{AllBelow}
@@ -25,7 +24,7 @@ use Rattle.records.specs.RegionBits.{holdsState}
 use Rattle.records.specs.ReplyBytes.{storedReply}
 use Rattle.records.specs.Tables.{Tables, replies, attacks}
 use Rattle.checker.specs.Check.{checkOf}
-use Rattle.checker.proofs.laws.Pass.{RepliesPass, AttacksPass, TablesPass, Passes, pass-is}
+use Rattle.checker.proofs.laws.Pass.{RepliesPass, AttacksPass, TablesPass, pass-is}
 use Rattle.checker.proofs.laws.Rules.{no-reply-broken, reset-held, no-attack-broken, RankedReset, reset-ranked}
 
 -- a file that is read says one circuit, for which its certificate passes

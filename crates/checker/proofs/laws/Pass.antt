@@ -1,21 +1,21 @@
 -- A pass, taken apart: the file is read, the certificate has tables, its circuit part is the file byte by byte, and the tables pass for the
 -- circuit (01, "The certificate": a certificate passes exactly if no number applies). Assumes nothing.
 use Prim.Native.Nat.{ℕ, _*_}
-use mathlib.Core.Bool.{Bool, true, false, not}
+use mathlib.Core.Bool.{false, not}
 use mathlib.Core.List.{List, _++_}
 use mathlib.Core.Option.{Option, none, some}
-use mathlib.Core.Path.{_≡_, refl, sym, ap, _∙_, subst}
+use mathlib.Core.Path.{_≡_, ap, _∙_, subst}
 use borrow.Author.Tests.{not-false}
 use lib.Dec.{ltb}
 use Rattle.bits.specs.Bytes.{sameBytes}
 use Rattle.bits.specs.Digits.{AllBelow}
 use Rattle.bits.proofs.laws.Bytes.{same-bytes-equal}
 use Rattle.circuit.specs.Circuit.{Circuit}
-use Rattle.circuit.specs.Outcome.{Outcome, taken, refused, _>>=_, _>>_, refuseIf}
+use Rattle.circuit.specs.Outcome.{taken, _>>=_, _>>_, refuseIf}
 use Rattle.circuit.proofs.laws.Outcome.{refused-is-not-taken, bind-taken, passed-test}
 use Rattle.file.specs.CircuitIn.{circuitIn}
 use Rattle.game.specs.CircuitGame.{circuitGame}
-use Rattle.records.specs.Record.{recordOf, split, whole, circuitKind}
+use Rattle.records.specs.Record.{recordOf, whole, circuitKind}
 use Rattle.records.specs.Tables.{Tables, replies, attacks, tablesOf, circuitPart}
 use Rattle.records.proofs.laws.Record.{whole-record}
 use Rattle.records.proofs.laws.Tables.{tables-begin}

@@ -1,20 +1,19 @@
 -- What tables that pass must be: no reply, and no attack, breaks its rule; the reset states lie in the stored region; one of them has a
 -- stored rank. Assumes nothing.
-use Prim.Native.Nat.{ℕ, _+_, _*_, _/_, _%_, _<_, _≤_}
+use Prim.Native.Nat.{ℕ, _+_, _*_, _/_, _%_, _<_}
 use native.Mathlib.Omega.{arith}
 use mathlib.Core.Bool.{Bool, true, false, not, _&&_, _||_}
 use mathlib.Core.List.{List}
 use mathlib.Core.Path.{_≡_, refl, sym, ap, ap₂, _∙_}
-use borrow.Author.Tests.{ltb-false, eqb-true, eqb-false, not-true, not-false}
+use borrow.Author.Tests.{ltb-false, eqb-false, not-false}
 use lib.Arith.{digits-lt, digits-div, digits-mod}
-use lib.Dec.{eqb, ltb}
+use lib.Dec.{eqb}
 use Rattle.below.specs.Least.{least}
 use Rattle.below.proofs.laws.Least.{least-before, any-none, every-fails}
 use Rattle.circuit.specs.Circuit.{Circuit, latchCount, uncontrollableCount}
 use Rattle.circuit.specs.Reset.{isReset}
 use Rattle.game.specs.Attack.{attackBroken}
 use Rattle.game.specs.CircuitGame.{circuitGame}
-use Rattle.game.specs.Game.{Game}
 use Rattle.game.specs.Reply.{replyBroken}
 use Rattle.records.specs.AttackTable.{storedRank, storedAttack}
 use Rattle.records.specs.RegionBits.{holdsState}

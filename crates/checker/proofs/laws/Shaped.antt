@@ -4,17 +4,17 @@ use native.Mathlib.Omega.{arith}
 use mathlib.Core.Bool.{true, false}
 use mathlib.Core.List.{List}
 use mathlib.Core.Option.{none}
-use mathlib.Core.Path.{_≡_, refl, sym, ap, _∙_}
+use mathlib.Core.Path.{_≡_, sym, ap, _∙_}
 use lib.ListN.{length}
 use Rattle.bits.specs.Bytes.{sameBytes}
-use Rattle.circuit.specs.Circuit.{Circuit, latchCount, uncontrollableCount}
-use Rattle.circuit.specs.Outcome.{Outcome, refused}
+use Rattle.circuit.specs.Circuit.{Circuit}
+use Rattle.circuit.specs.Outcome.{refused}
 use Rattle.records.specs.Record.{headLength}
 use Rattle.records.specs.Shape.{part}
 use Rattle.records.specs.Tables.{replies, attacks, circuitPart, tablesOf}
 use Rattle.records.proofs.laws.Parts.{ReplyParts, AttackParts}
 use Rattle.records.proofs.laws.Shape.{length-part}
-use Rattle.checker.specs.Answer.{Starts, ofReplies, ofAttacks, startsOf}
+use Rattle.checker.specs.Answer.{ofReplies, ofAttacks, startsOf}
 use Rattle.checker.specs.Check.{acceptedKinds}
 use Rattle.checker.specs.CircuitChecked.{circuitChecked, repliesJudged, attacksJudged}
 use Rattle.checker.specs.Counted.{Counted}

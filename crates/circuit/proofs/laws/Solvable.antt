@@ -3,13 +3,13 @@ use Prim.Native.Nat.{ℕ, min, _≤_}
 use native.Mathlib.Omega.{arith}
 use mathlib.Core.Bool.{Bool, true, false, _||_}
 use mathlib.Core.List.{List, []}
-use mathlib.Core.Path.{_≡_, refl, sym, ap, ap₂, _∙_}
+use mathlib.Core.Path.{_≡_, refl, sym, ap₂, _∙_}
 use borrow.Author.Tests.{ltb-false}
 use lib.Dec.{ltb}
 use lib.ListN.{length}
 use Rattle.below.specs.Table.{table}
 use Rattle.below.proofs.laws.Table.{length-table}
-use Rattle.circuit.specs.Circuit.{Circuit, latchCount, uncontrollableCount, controllableCount, tooMany, inputsThat}
+use Rattle.circuit.specs.Circuit.{Circuit, latchCount, uncontrollableCount, controllableCount, tooMany}
 use Rattle.circuit.specs.Limits.{base}
 use Rattle.circuit.specs.Literal.{tooLarge}
 use Rattle.circuit.specs.Stored.{lent, inputsOf, latchesOf, gatesOf, literalOf, emptyCircuit, solvable}

@@ -1,19 +1,17 @@
 -- The code's answer for the shape of a certificate names its tables as parts of it. Assumes nothing.
 use Prim.Native.Nat.{ℕ, _+_, _-_, _≤_}
 use native.Mathlib.Omega.{arith}
-use mathlib.Core.Bool.{Bool, true, false}
-use mathlib.Core.List.{List, [], _∷_}
+use mathlib.Core.List.{List}
 use mathlib.Core.Option.{Option, none, some}
 use mathlib.Core.Path.{_≡_, refl, sym, ap, ap₂, _∙_, subst₂, subst₃}
 use lib.ListN.{length, take, drop, length-drop}
 use lib.Seq.{drop-drop}
-use Rattle.records.specs.Record.{Split, whole, cut, split, circuitKind, regionKind, attackKind, headLength}
+use Rattle.records.specs.Record.{whole, split, circuitKind, regionKind, attackKind, headLength}
 use Rattle.records.specs.Shape.{shapeOf, part, Within}
 use Rattle.records.specs.Tables.{Tables, replies, attacks, tablesOf}
-use Rattle.records.specs.declared.Shape.{Shape}
 use Rattle.records.specs.declared.Shape.the-variants.{Replies, Attacks, Other}
-use Rattle.records.proofs.laws.Record.{IsWhole, whole-is}
-use Rattle.records.proofs.laws.Tables.{First, Second, withRegion, withAttacks, Third, tables-first}
+use Rattle.records.proofs.laws.Record.{whole-is}
+use Rattle.records.proofs.laws.Tables.{First, Second, withRegion, withAttacks, tables-first}
 
 -- contents of a record that starts at a place are a part of the whole, and so is what is behind
 record Placed (bytes contents rest : List ℕ) (at : ℕ) : Type 0 where

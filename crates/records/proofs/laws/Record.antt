@@ -1,20 +1,20 @@
 -- What holds of splitting bytes into a record and the rest: a record is read back as it was written, and whole bytes are a record and the
 -- rest. Assumes nothing.
-use Prim.Native.Nat.{ℕ, _+_, _*_, _-_, _%_, _^_, _<_, _≤_}
+use Prim.Native.Nat.{ℕ, _+_, _-_, _^_, _<_, _≤_}
 use native.Mathlib.Omega.{arith}
 use native.Mathlib.Nat.{mod-eq-of-lt}
 use mathlib.Core.Bool.{Bool, true, false, cond, _&&_}
-use mathlib.Core.List.{List, [], _∷_, _++_, append-assoc}
-use mathlib.Core.Path.{_≡_, refl, sym, ap, ap₂, _∙_, subst}
+use mathlib.Core.List.{List, _++_, append-assoc}
+use mathlib.Core.Path.{_≡_, refl, sym, ap, ap₂, _∙_}
 use lib.Dec.{leb}
-use lib.ListN.{length, take, drop, length-append, length-take, length-drop, take-append-drop}
+use lib.ListN.{length, take, drop, length-append, length-drop, take-append-drop}
 use lib.Seq.{take-at, drop-at, drop-drop, length-take-le}
 use borrow.Author.Tests.{leb-true, le-leb, lt-leb}
 use Rattle.bits.specs.Digits.{digits, sum, AllBelow}
 use Rattle.bits.proofs.laws.AllBelow.{all-below-take, all-below-drop}
 use Rattle.bits.proofs.laws.Bytes.{both-true}
 use Rattle.bits.proofs.laws.Digits.{length-digits, sum-digits, digits-sum}
-use Rattle.records.specs.Record.{Split, whole, cut, split, contentsLength, recordOf, headLength}
+use Rattle.records.specs.Record.{whole, cut, split, contentsLength, recordOf, headLength}
 
 -- whole where head and contents are there, else cut short
 pub split-there : (bytes : List ℕ) → headLength ≤ length bytes → headLength + contentsLength bytes ≤ length bytes → split bytes ≡ whole (sum 256 (take 2 (drop 4 bytes))) (take (contentsLength bytes) (drop headLength bytes)) (drop (headLength + contentsLength bytes) bytes)

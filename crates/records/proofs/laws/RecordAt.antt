@@ -1,5 +1,5 @@
 -- What the code's answer for a record at a place says of the bytes there. Assumes nothing.
-use Prim.Native.Nat.{ℕ, _+_, _-_, _<_, _≤_}
+use Prim.Native.Nat.{ℕ, _+_, _-_, _≤_}
 use native.Mathlib.Omega.{arith}
 use mathlib.Core.List.{List}
 use mathlib.Core.Path.{_≡_, refl, sym, ap, ap₂, _∙_}
@@ -7,9 +7,8 @@ use lib.ListN.{length, take, drop, length-drop}
 use lib.Seq.{drop-drop}
 use Rattle.records.specs.Record.{Split, whole, cut, split, headLength}
 use Rattle.records.specs.RecordAt.{recordAt}
-use Rattle.records.specs.declared.RecordAt.{RecordAt}
 use Rattle.records.specs.declared.RecordAt.the-variants.{Whole, Cut}
-use Rattle.records.proofs.laws.Record.{IsWhole, whole-is}
+use Rattle.records.proofs.laws.Record.{whole-is}
 
 -- a whole record, by its place
 pub record Found (bytes : List ℕ) (at kind start end : ℕ) : Type 0 where

@@ -13,7 +13,7 @@ use Rattle.below.specs.Among.{among, member}
 use Rattle.records.specs.Record.{whole, split, circuitKind, regionKind, replyKind, attackKind, headLength}
 use Rattle.records.specs.Shape.{shapeOf, part}
 use Rattle.records.specs.Tables.{replies, attacks, firstOf, secondOf, thirdOf}
-use Rattle.records.specs.declared.Shape.the-variants.{Replies, Attacks, Other}
+use Rattle.records.specs.declared.Shape.the-variants.{Replies, Attacks}
 
 pub length-part : (start end : ℕ) (bytes : List ℕ) → end ≤ length bytes → length (part start end bytes) ≡ end - start
 length-part start end bytes h = length-take-le (end - start) (drop start bytes) (omega (arith, length-drop start bytes))

@@ -1,22 +1,17 @@
 -- What the tables of a certificate say of its bytes: the records that they were split from, and where each part lies. Assumes nothing.
-use Prim.Native.Nat.{ℕ, _+_, _-_, _≤_}
+use Prim.Native.Nat.{ℕ, _-_}
 use native.Mathlib.Omega.{arith}
 use mathlib.Core.Bool.{Bool, true, false, cond, _&&_}
-use mathlib.Core.List.{List, [], _∷_}
-use mathlib.Core.Option.{Option, none, some}
-use mathlib.Core.Path.{_≡_, refl, sym, ap, ap₂, _∙_}
+use mathlib.Core.List.{List}
+use mathlib.Core.Option.{none, some}
+use mathlib.Core.Path.{_≡_, refl, sym, ap, _∙_}
 use borrow.Author.Tests.{eqb-true}
 use lib.Dec.{eqb}
-use lib.ListN.{length, take, drop, length-drop}
-use lib.Seq.{drop-drop}
+use lib.ListN.{length}
 use Rattle.below.specs.Among.{member}
 use Rattle.bits.proofs.laws.Bytes.{both-true}
-use Rattle.records.specs.Record.{Split, whole, cut, split, circuitKind, regionKind, attackKind, headLength}
-use Rattle.records.specs.Shape.{shapeOf, part, Within}
+use Rattle.records.specs.Record.{Split, whole, cut, split, circuitKind, regionKind, attackKind}
 use Rattle.records.specs.Tables.{Tables, replies, attacks, thirdOf, secondOf, firstOf, tablesOf, circuitPart}
-use Rattle.records.specs.declared.Shape.{Shape}
-use Rattle.records.specs.declared.Shape.the-variants.{Replies, Attacks, Other}
-use Rattle.records.proofs.laws.Record.{IsWhole, whole-is}
 
 -- the third record, where it is there
 pub record Third (accepted circuit region : List ℕ) (s : Split) (t : Tables) : Type 0 where

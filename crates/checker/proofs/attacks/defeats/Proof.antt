@@ -1,5 +1,5 @@
 -- `checker::attacks::defeats` meets its contract: none of the controls passed keeps out of the ranks. Assumes nothing.
-use Prim.Native.Nat.{ℕ, _-_}
+use Prim.Native.Nat.{_-_}
 use native.Mathlib.Omega.{arith}
 use mathlib.Core.Path.{sym, _∙_}
 use lib.Pow.{pow-mono}

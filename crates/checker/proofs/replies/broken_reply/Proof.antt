@@ -1,5 +1,5 @@
 -- `checker::replies::broken_reply` meets its contract: no reply at the places passed breaks the rule. Assumes nothing.
-use Prim.Native.Nat.{ℕ, _-_, _/_, _%_}
+use Prim.Native.Nat.{_-_, _/_, _%_}
 use native.Mathlib.Omega.{arith}
 use mathlib.Core.Path.{sym, _∙_}
 use Rattle.below.proofs.laws.Passed.{Passed, passed-start, passed-next, passed-found, passed-end}
