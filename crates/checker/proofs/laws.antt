@@ -9,3 +9,4 @@ pub mod Defeats
 pub mod Sizes
 pub mod Shaped
 pub mod Counted
+pub mod Answer
