@@ -23,30 +23,21 @@ use Rattle.checker.specs.CircuitChecked.{circuitChecked, repliesJudged, 
 use Rattle.checker.specs.Numbers.{badShape, otherCircuit, badTable, badReset, brokenStep}
 use Rattle.checker.specs.Rules.{badReplyTables, badAttackTable, resetOutside, resetUnranked, brokenReply, brokenAttack}
 
-bind-bind : {A B C : Type 0} (o : Outcome A) (f : A → Outcome B) (g : B → Outcome C) → (o >>= f >>= g) ≡ (o >>= λ a. f a >>= g)
-bind-bind (taken a) f g = refl
-bind-bind (refused number place) f g = refl
-
 then-bind : {B C : Type 0} (t : Bool) (number place : ℕ) (next : Outcome B) (g : B → Outcome C) → (refuseIf t number place >> next >>= g) ≡ (refuseIf t number place >> (next >>= g))
 unfolding refuseIf
 then-bind true number place next g = refl
 then-bind false number place next g = refl
 
+-- one stage behind the other, whatever the test between shape and judging
+staged : (o : Outcome Circuit) (shape : Outcome Tables) (test : Tables → Bool) (number : ℕ) (judge : Circuit → Tables → Outcome Tables) (starts : Circuit → Tables → Starts) → (o >>= λ c. o >>= (λ d. shape >>= λ t. refuseIf (test t) number 0 >> judge d t) >>= λ t. taken (starts c t)) ≡ (o >>= λ c. shape >>= λ t. refuseIf (test t) number 0 >> (judge c t >>= λ u. taken (starts c u)))
+staged (refused n place) shape test number judge starts = refl
+staged (taken c) (refused n place) test number judge starts = refl
+staged (taken c) (taken t) test number judge starts = then-bind (test t) number 0 (judge c t) (λ u. taken (starts c u))
+
 -- reading, then the check for the circuit
 pub answer-is-checked : (file certificate : List ℕ) → answerOf file certificate ≡ (circuitIn file >>= λ c. circuitChecked c file certificate)
 unfolding answerOf checkOf circuitChecked
-answer-is-checked file certificate = by (circuitIn file)
-  where
-    test : Circuit → Tables → Outcome Tables
-    test c t = refuseIf (not (sameBytes (circuitPart t) file)) otherCircuit 0 >> tablesChecked c t
-
-    judge : (c : Circuit) (o : Outcome Tables) → (o >>= test c >>= λ t. taken (startsOf c t)) ≡ (o >>= λ t. refuseIf (not (sameBytes (circuitPart t) file)) otherCircuit 0 >> (tablesChecked c t >>= λ u. taken (startsOf c u)))
-    judge c (taken t) = then-bind (not (sameBytes (circuitPart t) file)) otherCircuit 0 (tablesChecked c t) (λ u. taken (startsOf c u))
-    judge c (refused number place) = refl
-
-    by : (o : Outcome Circuit) → (o >>= λ c. o >>= (λ d. orBadShape (tablesOf acceptedKinds certificate) >>= test d) >>= λ t. taken (startsOf c t)) ≡ (o >>= λ c. orBadShape (tablesOf acceptedKinds certificate) >>= λ t. refuseIf (not (sameBytes (circuitPart t) file)) otherCircuit 0 >> (tablesChecked c t >>= λ u. taken (startsOf c u)))
-    by (taken c) = judge c (orBadShape (tablesOf acceptedKinds certificate))
-    by (refused number place) = refl
+answer-is-checked file certificate = staged (circuitIn file) (orBadShape (tablesOf acceptedKinds certificate)) _ otherCircuit tablesChecked startsOf
 
 -- the judging of each kind of table
 pub replies-judged : (c : Circuit) (circuit region : List ℕ) (kind : ℕ) (table : List ℕ) → (tablesChecked c (replies circuit region kind table) >>= λ u. taken (startsOf c u)) ≡ repliesJudged c region table (startsOf c (replies circuit region kind table))
