@@ -11,7 +11,7 @@ use circuit::Circuit;
 use circuit::FileRead;
 use circuit::Read;
 use circuit::Refusal;
-use circuit::counts::controllables;
+use circuit::counts::controllable_count;
 ghost use Prim.Native.Nat.{_+_, _≤_};
 ghost use mathlib.Core.List.{[], _∷_};
 ghost use mathlib.Core.Path.{_≡_};
@@ -168,7 +168,7 @@ fn refused(number: u8, place: usize) -> FileRead
 fn too_many<'a>(input: &'a [u16], flags: &'a [u8]) -> bool
     ensures { λ r. ⌜ r ≡ tooMany base (withInputs (inputsOf (now (input .entry)) (now (flags .entry)))) ⌝ }
 {
-    let n = controllables(input, flags);
+    let n = controllable_count(input, flags);
     if Circuit::CONTROLLABLE < n {
         return true;
     }

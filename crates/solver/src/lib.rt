@@ -59,7 +59,7 @@ pub fn ranks_lent<'a>(
 ) -> [u16; Circuit::STATES]
     ensures { λ r. ⌜ r ≡ rankTable (circuitGame (solvable (lent 0 (now (input .entry)) (now (controllable .entry)) (now (latch .entry)) (now (next .entry)) output (now (gate .entry)) (now (left .entry)) (now (right .entry))))) ⌝ }
 {
-    let c = circuit::counts::controllables(input, controllable);
+    let c = circuit::counts::controllable_count(input, controllable);
     let u = input.len() - c;
     if Circuit::UNCONTROLLABLE < u {
         return zeros();

@@ -31,42 +31,10 @@ inputs-of-two-sorts (i ∷ is) = by (i .controllable) (inputs-of-two-sorts is)
     by true e = omega arith
     by false e = omega arith
 
-pub one-if-most : (b : Bool) → oneIf b ≤ 1
-unfolding oneIf
-one-if-most true = omega arith
-one-if-most false = omega arith
-
 module _ (input controllable : List ℕ) where
   pub length-inputs : length (inputsOf input controllable) ≡ length input
   unfolding inputsOf
   length-inputs = length-table _ (length input)
-
-  inputAt : ℕ → Input
-  inputAt i = record { own = literalOf (getD input i 0); controllable = not (eqb (getD controllable i 0) 0) }
-
-  -- counting: n of the first i inputs are controllable, and what is left makes the whole
-  pub record Counted (i n : ℕ) : Type 0 where
-    pub within : i ≤ length input
-    pub few : n ≤ i
-    pub left : n + inputsThat (λ j. j .controllable) (drop i (inputsOf input controllable)) ≡ inputsThat (λ j. j .controllable) (inputsOf input controllable)
-
-  pub count-start : Counted 0 0
-  count-start = record { within = omega arith; few = omega arith; left = omega arith }
-
-  pub count-next : (i n : ℕ) → Counted i n → i < length input → Counted (i + 1) (n + oneIf (not (eqb (getD controllable i 0) 0)))
-  unfolding inputsThat oneIf inputsOf inputAt
-  count-next i n c h = record { within = omega arith; few = omega (arith, c .few, one-if-most (not (eqb (getD controllable i 0) 0))); left = rw add-one (omega (arith, c .left, here, by (not (eqb (getD controllable i 0) 0)) (inputsThat (λ j. j .controllable) (drop (suc i) (table inputAt (length input)))))) }
-    where
-      by : (b : Bool) (m : ℕ) → cond b (suc m) m ≡ cond b 1 0 + m
-      by true m = omega arith
-      by false m = omega arith
-
-      here : inputsThat (λ j. j .controllable) (drop i (table inputAt (length input))) ≡ cond (not (eqb (getD controllable i 0) 0)) (suc (inputsThat (λ j. j .controllable) (drop (suc i) (table inputAt (length input))))) (inputsThat (λ j. j .controllable) (drop (suc i) (table inputAt (length input))))
-      here = ap (inputsThat (λ j. j .controllable)) (drop-table inputAt (length input) i h)
-
-  pub count-end : (i n : ℕ) → Counted i n → length input ≤ i → n ≡ inputsThat (λ j. j .controllable) (inputsOf input controllable)
-  unfolding inputsThat inputsOf inputAt
-  count-end i n c h = omega (arith, c .left, ap (inputsThat (λ j. j .controllable)) (drop-table-all inputAt (length input) i h))
 
 module _ (largest : ℕ) (input controllable latch next : List ℕ) (output : ℕ) (gate left right : List ℕ) where
   pub lent-latches : latchCount (lent largest input controllable latch next output gate left right) ≡ min (length latch) (base .latches)

@@ -12,12 +12,12 @@ use Rattle.solver.proofs.laws.Solved.{played-solvable, many-readings-ra
 use Rattle.solver.proofs.ranks_lent.Statement.{statement}
 use Rattle.solver.proofs.ranks_lent.Tie as tie
 
-controllables-requires : tie.Need-controllables-requires
-controllables-requires c κs = search needs
+controllable-count-requires : tie.Need-controllable-count-requires
+controllable-count-requires c κs = search needs
 
 sub-u : tie.Need-sub-u
 sub-u c = let a = c .before .before .before .before .before .before .before .before .args in
-    lent-others 0 (a .input .now) (a .controllable .now) (a .latch .now) (a .next .now) (a .output) (a .gate .now) (a .left .now) (a .right .now) (c .controllables .result) (c .controllables .ensures) .0
+    lent-others 0 (a .input .now) (a .controllable .now) (a .latch .now) (a .next .now) (a .output) (a .gate .now) (a .left .now) (a .right .now) (c .controllable-count .result) (c .controllable-count .ensures) .0
 
 zeros-requires : tie.Need-zeros-requires
 zeros-requires c κs = search needs
@@ -25,7 +25,7 @@ zeros-requires c κs = search needs
 returns : tie.Need-returns
 returns c = let w = c .before .before in
     let a = w .before .before .before .before .before .before .before .before .args in
-    let u = lent-others 0 (a .input .now) (a .controllable .now) (a .latch .now) (a .next .now) (a .output) (a .gate .now) (a .left .now) (a .right .now) (w .controllables .result) (w .controllables .ensures) in
+    let u = lent-others 0 (a .input .now) (a .controllable .now) (a .latch .now) (a .next .now) (a .output) (a .gate .now) (a .left .now) (a .right .now) (w .controllable-count .result) (w .controllable-count .ensures) in
     c .zeros .ensures ∙ many-readings-ranks (lent 0 (a .input .now) (a .controllable .now) (a .latch .now) (a .next .now) (a .output) (a .gate .now) (a .left .now) (a .right .now)) (omega (arith, u .1, c .before .if1 .taken))
 
 zeros-requires-2 : tie.Need-zeros-requires-2
@@ -35,7 +35,7 @@ returns-2 : tie.Need-returns-2
 returns-2 c = let w = c .before .before .before in
     let a = w .before .before .before .before .before .before .before .before .args in
     let same = lent-controllable 0 (a .input .now) (a .controllable .now) (a .latch .now) (a .next .now) (a .output) (a .gate .now) (a .left .now) (a .right .now) in
-    c .zeros2 .ensures ∙ many-controls-ranks (lent 0 (a .input .now) (a .controllable .now) (a .latch .now) (a .next .now) (a .output) (a .gate .now) (a .left .now) (a .right .now)) (omega (arith, same, w .controllables .ensures, c .before .if2 .taken))
+    c .zeros2 .ensures ∙ many-controls-ranks (lent 0 (a .input .now) (a .controllable .now) (a .latch .now) (a .next .now) (a .output) (a .gate .now) (a .left .now) (a .right .now)) (omega (arith, same, w .controllable-count .ensures, c .before .if2 .taken))
 
 fewer-requires : tie.Need-fewer-requires
 fewer-requires c κs = search needs
@@ -58,15 +58,15 @@ returns-3 : tie.Need-returns-3
 returns-3 c = let n = c .before .before in
     let w = n .before .before .before .before .before in
     let a = w .before .before .before .before .before .before .before .before .args in
-    let u = lent-others 0 (a .input .now) (a .controllable .now) (a .latch .now) (a .next .now) (a .output) (a .gate .now) (a .left .now) (a .right .now) (w .controllables .result) (w .controllables .ensures) in
+    let u = lent-others 0 (a .input .now) (a .controllable .now) (a .latch .now) (a .next .now) (a .output) (a .gate .now) (a .left .now) (a .right .now) (w .controllable-count .result) (w .controllable-count .ensures) in
     let same = lent-controllable 0 (a .input .now) (a .controllable .now) (a .latch .now) (a .next .now) (a .output) (a .gate .now) (a .left .now) (a .right .now) in
-    c .rounds .ensures ∙ ap rankTable (played-solvable (lent 0 (a .input .now) (a .controllable .now) (a .latch .now) (a .next .now) (a .output) (a .gate .now) (a .left .now) (a .right .now)) (length (a .input .now) - w .controllables .result) (w .controllables .result) (n .before .numbers .result) (n .numbers2 .result) (u .1) (w .controllables .ensures ∙ sym same) (omega arith) (omega arith) (n .before .numbers .ensures) (n .numbers2 .ensures))
+    c .rounds .ensures ∙ ap rankTable (played-solvable (lent 0 (a .input .now) (a .controllable .now) (a .latch .now) (a .next .now) (a .output) (a .gate .now) (a .left .now) (a .right .now)) (length (a .input .now) - w .controllable-count .result) (w .controllable-count .result) (n .before .numbers .result) (n .numbers2 .result) (u .1) (w .controllable-count .ensures ∙ sym same) (omega arith) (omega arith) (n .before .numbers .ensures) (n .numbers2 .ensures))
 
 pub ranks-lent-spec : {M : Type 1} → statement M
 ranks-lent-spec =
     tie.close
     (tie.spec
-    controllables-requires
+    controllable-count-requires
     sub-u
     zeros-requires
     returns

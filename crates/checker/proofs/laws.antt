@@ -1,0 +1,12 @@
+pub mod Pass
+pub mod Rules
+pub mod Means
+pub mod Stages
+pub mod Faults
+pub mod Judged
+pub mod Places
+pub mod Defeats
+pub mod Sizes
+pub mod Shaped
+pub mod Counted
+pub mod Answer
