@@ -72,7 +72,7 @@ fn print_lent<'a>(
     right: &'a [u16],
     ranks: &'a [u16],
 ) {
-    let c = circuit::counts::controllables(input, controllable);
+    let c = circuit::counts::controllable_count(input, controllable);
     let u = input.len() - below::fewer(c, input.len());
     let states = numbers(latch.len());
     let controls = numbers(c) as usize;
