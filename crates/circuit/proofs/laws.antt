@@ -1,5 +1,4 @@
 pub mod SameCircuit
-pub mod LiteralOf
 pub mod Answer
 pub mod StoredLiteral
 pub mod Counted
@@ -7,3 +6,4 @@ pub mod Counts
 pub mod Outcome
 pub mod Inputs
 pub mod Solvable
+pub mod Meant

@@ -3,7 +3,7 @@ use native.Mathlib.Omega.{arith}
 use mathlib.Core.Path.{sym, ap, _∙_}
 use lib.ListN.{List·getD-eq-default}
 use Rattle.circuit.specs.Stored.{literalOf}
-use Rattle.circuit.proofs.laws.LiteralOf.{literal-kept, literal-dropped}
+use Rattle.circuit.proofs.laws.StoredLiteral.{literal-small, literal-large}
 use borrow.Author.Needs.{needs}
 use Rattle.printer.proofs.lines.literal_at.Statement.{statement}
 use Rattle.printer.proofs.lines.literal_at.Tie as tie
@@ -27,15 +27,15 @@ cast-result : tie.Need-cast-result
 cast-result c = search needs
 
 returns : tie.Need-returns
-returns c = sym (literal-kept _ (c .if2 .taken))
+returns c = sym (literal-small _ (c .if2 .taken))
 
 returns-2 : tie.Need-returns-2
-returns-2 c = sym (literal-dropped _ (c .if2 .left))
+returns-2 c = sym (literal-large _ (c .if2 .left))
 
 returns-3 : tie.Need-returns-3
 returns-3 c =
     let a = c .before .args in
-    sym (ap literalOf (List·getD-eq-default (a .list .now) 0 (c .if1 .left)) ∙ literal-kept 0 (omega arith))
+    sym (ap literalOf (List·getD-eq-default (a .list .now) 0 (c .if1 .left)) ∙ literal-small 0 (omega arith))
 
 pub literal-at-spec : {M : Type 1} → statement M
 literal-at-spec =
