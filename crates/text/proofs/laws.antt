@@ -25,3 +25,4 @@ pub mod Size
 pub mod PrintedReadsBack
 pub mod Decimal
 pub mod PrintedNames
+pub mod Fits
