@@ -10,3 +10,4 @@ pub mod Sizes
 pub mod Shaped
 pub mod Counted
 pub mod Answer
+pub mod Front

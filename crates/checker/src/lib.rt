@@ -5,6 +5,7 @@ mod replies;
 use attacks::check_attacks;
 use bits::bytes::same_bytes;
 use circuit::Circuit;
+use circuit::Read;
 use circuit::Refusal;
 use records::HEAD;
 use records::Shape;
@@ -14,7 +15,7 @@ ghost use Prim.Native.Nat.{_^_, _<_};
 ghost use mathlib.Core.Path.{_≡_};
 ghost use lib.ListN.{take};
 ghost use Rattle.circuit.specs.Stored.{lent, meant, solvable};
-ghost use Rattle.checker.specs.Answer.{checkedOutcome};
+ghost use Rattle.checker.specs.Answer.{checkedOutcome, answerOf};
 ghost use Rattle.checker.specs.CircuitChecked.{circuitChecked};
 ghost use Rattle.checker.specs.Counted.{Counted};
 
@@ -44,6 +45,18 @@ const BAD_TABLE: u8 = 13;
 const BAD_RESET: u8 = 14;
 
 const BROKEN_STEP: u8 = 15;
+
+// Whether a certificate passes for a file: the file's refusals, then 11 to 15.
+pub fn check<'a>(file: &'a [u8], certificate: &'a [u8]) -> Checked
+    ensures { λ r. ⌜ checkedOutcome r ≡ answerOf (now (file .entry)) (now (certificate .entry)) ⌝ }
+{
+    let read = file::read(file);
+    let answer = read.answer;
+    match answer {
+        Read::Refused(r) => Checked::Refused(r),
+        Read::Taken => check_circuit(read.circuit, file, certificate),
+    }
+}
 
 // 11 to 15 of a certificate for a circuit that was read from `file`. One with more inputs of a sort than a circuit may have counts as the
 // empty circuit.

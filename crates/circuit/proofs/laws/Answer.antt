@@ -1,4 +1,4 @@
--- What a writer may answer: the count of bytes that fit and stand at the front, or 10 at 0 with the buffer as it was. Assumes nothing.
+-- What a reader's promise decides, and what a writer may answer: the count of bytes that fit and stand at the front, or 10 at 0 with the buffer as it was. Assumes nothing.
 use Prim.Native.Nat.{ℕ, _<_, _≤_}
 use native.Mathlib.Omega.{arith}
 use mathlib.Core.List.{List}
@@ -7,9 +7,13 @@ use lib.ListN.{length}
 use borrow.Author.Tests.{lt-ltb, le-ltb}
 use Rattle.bits.specs.Wrote.{Wrote}
 use Rattle.bits.proofs.laws.Wrote.{sets-front}
+use Rattle.circuit.specs.declared.FileRead.{FileRead}
+use Rattle.circuit.specs.declared.Read.{Read}
+use Rattle.circuit.specs.declared.Read.the-variants.{Taken, Refused as ReadRefused}
 use Rattle.circuit.specs.declared.Written.{Written}
 use Rattle.circuit.specs.declared.Written.the-variants.{Bytes, Refused}
-use Rattle.circuit.specs.Answer.{writtenOutcome, noRoom, fitted, countOf, bufferAfter, WrittenAs}
+use Rattle.circuit.specs.Answer.{readOutcome, ReadAs, writtenOutcome, noRoom, fitted, countOf, bufferAfter, WrittenAs}
+use Rattle.circuit.specs.Circuit.{Circuit}
 use Rattle.circuit.specs.Outcome.{Outcome, taken, refused, refuseIf}
 
 pub fitted-taken : (bytes : List ℕ) (room : ℕ) → length bytes ≤ room → fitted bytes room ≡ taken bytes
@@ -43,3 +47,22 @@ same-written (Refused r) (Refused s) e =
 -- the promise of a writer decides its answer and every byte of its buffer
 pub written-decided : (outcome : Outcome (List ℕ)) (before l m : List ℕ) (r s : Written) → WrittenAs outcome before l r → WrittenAs outcome before m s → (r ≡ s) × (l ≡ m)
 written-decided outcome before l m r s v w = (same-written r s (v .answer ∙ sym (w .answer)), v .bytes ∙ sym (w .bytes))
+
+same-read : (r s : Read) → readOutcome r ≡ readOutcome s → r ≡ s
+unfolding readOutcome
+same-read Taken Taken e = refl
+same-read Taken (ReadRefused s) e = cc
+same-read (ReadRefused r) Taken e = cc
+same-read (ReadRefused r) (ReadRefused s) e =
+    let number : r .number ≡ s .number = cc in
+    let place : r .place ≡ s .place = cc in
+    λ x. ReadRefused (record { number = number x; place = place x })
+
+-- the promise of a reader decides its answer and the circuit beside it
+pub read-decided : (outcome : Outcome Circuit) (r s : FileRead) → ReadAs outcome r → ReadAs outcome s → r ≡ s
+read-decided outcome r s v w =
+    λ x.
+    record {
+      answer = same-read (r .answer) (s .answer) (v .answer ∙ sym (w .answer)) x;
+      circuit = (v .circuit ∙ sym (w .circuit)) x;
+    }

@@ -1,0 +1,39 @@
+-- What a reader's answer says of the file: the circuit beside it is the one that the file means, or the refusal is the file's. Assumes nothing.
+use Prim.Native.Nat.{ℕ}
+use mathlib.Core.List.{List}
+use mathlib.Core.Path.{_≡_, refl, sym, ap, _∙_}
+use Rattle.circuit.specs.Answer.{ReadAs, readOutcome, circuitOr}
+use Rattle.circuit.specs.Circuit.{Circuit}
+use Rattle.circuit.specs.declared.FileRead.{FileRead}
+use Rattle.circuit.specs.declared.Read.the-variants.{Taken, Refused}
+use Rattle.circuit.specs.declared.Refusal.{Refusal}
+use Rattle.circuit.specs.Outcome.{Outcome, taken, refused, _>>=_}
+use Rattle.circuit.specs.Stored.{meant, stored, solvable}
+use Rattle.file.specs.CircuitIn.{circuitIn}
+use Rattle.text.proofs.laws.Fits.{read-meant, read-solvable}
+
+-- the circuit that a file means, and that a value stands for
+pub record Means (file : List ℕ) (r : FileRead) : Type 0 where
+  pub circuit : Circuit
+  pub read : circuitIn file ≡ taken circuit
+  pub meant-is : meant (r .circuit) ≡ circuit
+  pub solvable-is : solvable (meant (r .circuit)) ≡ circuit
+
+module _ (file : List ℕ) (r : FileRead) (as : ReadAs (circuitIn file) r) where
+  pub taken-means : r .answer ≡ Taken → Means file r
+  unfolding circuitIn readOutcome circuitOr _>>=_
+  taken-means e = by (circuitIn file) refl as
+    where
+      by : (o : Outcome Circuit) → circuitIn file ≡ o → ReadAs o r → Means file r
+      by (taken c) q a =
+          let m : meant (r .circuit) ≡ c = ap meant (a .circuit) ∙ read-meant file c q in
+          record { circuit = c; read = q; meant-is = m; solvable-is = ap solvable m ∙ read-solvable file c q }
+      by (refused number place) q a = absurd cc
+
+  pub refused-means : (x : Refusal) → r .answer ≡ Refused x → circuitIn file ≡ refused (x .number) (x .place)
+  unfolding circuitIn readOutcome circuitOr _>>=_
+  refused-means x e = by (circuitIn file) refl as
+    where
+      by : (o : Outcome Circuit) → circuitIn file ≡ o → ReadAs o r → circuitIn file ≡ refused (x .number) (x .place)
+      by (taken c) q a = absurd cc
+      by (refused number place) q a = q ∙ cc
