@@ -2,6 +2,7 @@
 mod lines;
 
 use circuit::Circuit;
+use circuit::Read;
 use circuit::Refusal;
 use circuit::Written;
 use lines::literal_at;
@@ -21,10 +22,23 @@ ghost use Rattle.circuit.specs.Stored.{meant};
 ghost use Rattle.text.specs.Header.{word};
 ghost use Rattle.text.specs.Printed.{printed, printedInto};
 ghost use Rattle.text.specs.Written.{numberLine};
+ghost use Rattle.printer.specs.FilePrinted.{filePrinted};
 ghost use Rattle.printer.specs.Line.{longestLine};
 
 // 10: lent buffer shorter than what must be written (01, "The numbers").
 const NO_ROOM: u8 = 10;
+
+// Prints the circuit of a file at the front of the buffer: the file's refusals, then 10. A refusal writes nothing.
+pub fn print(file: &[u8], out: &mut [u8]) -> Written
+    ensures { λ r. ⌜ WrittenAs (filePrinted (now (file .entry)) (length (now (out .entry)))) (now (out .entry)) (now (out .exit)) r ⌝ }
+{
+    let read = file::read(file);
+    let answer = read.answer;
+    match answer {
+        Read::Refused(r) => Written::Refused(r),
+        Read::Taken => print_circuit(read.circuit, out),
+    }
+}
 
 // Prints a circuit at the front of the buffer. Where the buffer is shorter than the print, nothing is written.
 pub fn print_circuit(c: Circuit, out: &mut [u8]) -> Written
