@@ -17,16 +17,16 @@ use Rattle.checker.specs.Answer.{Starts, checkedOutcome, answerOf}
 use Rattle.checker.specs.CircuitChecked.{circuitChecked}
 use Rattle.checker.proofs.laws.Stages.{answer-is-checked}
 
-module _ (file certificate : List ℕ) (r : FileRead) (as : ReadAs (circuitIn file) r) where
+module _ (file certificate : List ℕ) (r : FileRead) (given : ReadAs (circuitIn file) r) where
   behind : Outcome Circuit → Outcome Starts
   behind o = o >>= λ c. circuitChecked c file certificate
 
   pub front-checked : r .answer ≡ Taken → (k : Checked) → checkedOutcome k ≡ circuitChecked (solvable (meant (r .circuit))) file certificate → checkedOutcome k ≡ answerOf file certificate
   unfolding behind _>>=_
   front-checked e k q =
-      let m : Means file r = taken-means file r as e in
+      let m : Means file r = taken-means file r given e in
       q ∙ ap (λ (d : Circuit). circuitChecked d file certificate) (m .solvable-is) ∙ sym (answer-is-checked file certificate ∙ ap behind (m .read))
 
   pub front-refused : (x : Refusal) → r .answer ≡ ReadRefused x → checkedOutcome (Refused x) ≡ answerOf file certificate
   unfolding behind checkedOutcome _>>=_
-  front-refused x e = sym (answer-is-checked file certificate ∙ ap behind (refused-means file r as x e))
+  front-refused x e = sym (answer-is-checked file certificate ∙ ap behind (refused-means file r given x e))

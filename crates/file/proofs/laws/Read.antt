@@ -19,10 +19,10 @@ pub record Means (file : List ℕ) (r : FileRead) : Type 0 where
   pub meant-is : meant (r .circuit) ≡ circuit
   pub solvable-is : solvable (meant (r .circuit)) ≡ circuit
 
-module _ (file : List ℕ) (r : FileRead) (as : ReadAs (circuitIn file) r) where
+module _ (file : List ℕ) (r : FileRead) (given : ReadAs (circuitIn file) r) where
   pub taken-means : r .answer ≡ Taken → Means file r
   unfolding circuitIn readOutcome circuitOr _>>=_
-  taken-means e = by (circuitIn file) refl as
+  taken-means e = by (circuitIn file) refl given
     where
       by : (o : Outcome Circuit) → circuitIn file ≡ o → ReadAs o r → Means file r
       by (taken c) q a =
@@ -32,7 +32,7 @@ module _ (file : List ℕ) (r : FileRead) (as : ReadAs (circuitIn file) r) where
 
   pub refused-means : (x : Refusal) → r .answer ≡ Refused x → circuitIn file ≡ refused (x .number) (x .place)
   unfolding circuitIn readOutcome circuitOr _>>=_
-  refused-means x e = by (circuitIn file) refl as
+  refused-means x e = by (circuitIn file) refl given
     where
       by : (o : Outcome Circuit) → circuitIn file ≡ o → ReadAs o r → circuitIn file ≡ refused (x .number) (x .place)
       by (taken c) q a = absurd cc

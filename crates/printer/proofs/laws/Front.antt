@@ -17,14 +17,14 @@ use Rattle.file.proofs.laws.Read.{Means, taken-means, refused-means}
 use Rattle.text.specs.Printed.{printedInto}
 use Rattle.printer.specs.FilePrinted.{filePrinted}
 
-module _ (file : List ℕ) (r : FileRead) (as : ReadAs (circuitIn file) r) where
+module _ (file : List ℕ) (r : FileRead) (given : ReadAs (circuitIn file) r) where
   then : ℕ → Outcome Circuit → Outcome (List ℕ)
   then room o = o >>= λ c. printedInto c room
 
   pub front-printed : (before after : List ℕ) (w : Written) → r .answer ≡ Taken → WrittenAs (printedInto (meant (r .circuit)) (length before)) before after w → WrittenAs (filePrinted file (length before)) before after w
   unfolding filePrinted then _>>=_
   front-printed before after w e p =
-      let m : Means file r = taken-means file r as e in
+      let m : Means file r = taken-means file r given e in
       subst (λ (o : Outcome (List ℕ)). WrittenAs o before after w)
       (ap (λ (c : Circuit). printedInto c (length before)) (m .meant-is) ∙ sym (ap (then (length before)) (m .read)))
       p
@@ -32,5 +32,5 @@ module _ (file : List ℕ) (r : FileRead) (as : ReadAs (circuitIn file) r) where
   pub front-refused : (buffer : List ℕ) (x : Refusal) → r .answer ≡ ReadRefused x → WrittenAs (filePrinted file (length buffer)) buffer buffer (Refused x)
   unfolding filePrinted then writtenOutcome countOf bufferAfter _>>=_
   front-refused buffer x e =
-      let q : filePrinted file (length buffer) ≡ refused (x .number) (x .place) = ap (then (length buffer)) (refused-means file r as x e) in
+      let q : filePrinted file (length buffer) ≡ refused (x .number) (x .place) = ap (then (length buffer)) (refused-means file r given x e) in
       subst (λ (o : Outcome (List ℕ)). WrittenAs o buffer buffer (Refused x)) (sym q) (record { answer = refl; bytes = refl })
