@@ -33,6 +33,11 @@ module _ {ℓ} {A : Type ℓ} where
   pub drop-table-all : (f : ℕ → A) (n i : ℕ) → n ≤ i → drop i (table f n) ≡ []
   drop-table-all f n i h = drop-of-length-le (table f n) {i = i} (omega (arith, length-table f n))
 
+  pub table-same : (f g : ℕ → A) (n : ℕ) → ((i : ℕ) → i < n → f i ≡ g i) → table f n ≡ table g n
+  unfolding table
+  table-same f g zero e = refl
+  table-same f g (suc n) e = ap (λ (l : List A). l ++ (f n ∷ [])) (table-same f g n (λ i h. e i (omega arith))) ∙ ap (λ (a : A). table g n ++ (a ∷ [])) (e n (omega arith))
+
 pub map-table {ℓ κ} : {A : Type ℓ} {B : Type κ} (g : A → B) (f : ℕ → A) (n : ℕ) → map g (table f n) ≡ table (λ i. g (f i)) n
 unfolding table
 map-table g f zero = refl

@@ -147,6 +147,19 @@ module _ (g : Game) (proper : Proper g) where
   still-on n zero still = rw zero-add still
   still-on n (suc d) still = rw suc-add (still-next (d + n) (still-on n d still))
 
+  -- after a round that changes nothing the ranks stay what they are
+  unchanged-on : (n d s : ℕ) → Still g n → s < g .states → ranksAfter g (d + n) s ≡ ranksAfter g n s
+  unfolding Still
+  unchanged-on n zero s still h = rw zero-add
+  unchanged-on n (suc d) s still h = rw suc-add (later-same (still-on n d still) ∙ unchanged-on n d s still h)
+    where
+      later-same : Still g (d + n) → ranksAfter g (suc (d + n)) s ≡ ranksAfter g (d + n) s
+      later-same again = again s h
+
+  pub still-ranks : (n s : ℕ) → Still g n → n ≤ g .states → s < g .states → ranksAfter g n s ≡ rank g s
+  unfolding rank
+  still-ranks n s still l h = sym (unchanged-on n (g .states - n) s still h) ∙ ap (λ (m : ℕ). ranksAfter g m s) {x = g .states - n + n} {y = g .states} (omega arith)
+
   -- how many states have a rank after n rounds
   rankedCount : ℕ → ℕ
   rankedCount n = count (λ s. ltb 0 (ranksAfter g n s)) (g .states)

@@ -1,0 +1,24 @@
+-- `moves::is_unranked` meets its contract: rank 0, or one above the bound.
+use native.Mathlib.Omega.{arith}
+use mathlib.Core.Path.{sym}
+use borrow.Author.Needs.{needs}
+use Rattle.game.proofs.laws.Rank.{unranked-zero}
+use Rattle.moves.specs.Played.{ranksIn}
+use Rattle.moves.proofs.laws.Played.{above-unranked}
+use Rattle.moves.proofs.is_unranked.Statement.{statement}
+use Rattle.moves.proofs.is_unranked.Tie as tie
+use Rattle.moves.proofs.is_unranked.Reads as reads
+use Rattle.moves.proofs.rank_at.Reads as rank-at-reads
+use Rattle.moves.proofs.is_unranked.Lts as lts
+
+rank-at-requires : tie.Need-rank-at-requires
+rank-at-requires c κs = search needs
+
+returns : tie.Need-returns
+returns c = let a = c .before .before .before .args in sym (unranked-zero (ranksIn (a .ranks .now)) (a .bound) (a .state) (omega arith))
+
+returns-2 : tie.Need-returns-2
+returns-2 c = let a = c .before .before .before .args in above-unranked (ranksIn (a .ranks .now)) (a .bound) (a .state) (c .before .rank-at .result) (c .before .rank-at .ensures) (omega arith)
+
+pub is-unranked-spec : {M : Type 1} → statement M
+is-unranked-spec = tie.close (tie.spec rank-at-requires returns returns-2)
