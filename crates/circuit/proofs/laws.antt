@@ -2,3 +2,4 @@ pub mod SameCircuit
 pub mod StoredLiteral
 pub mod Counted
 pub mod Outcome
+pub mod Inputs

@@ -1,4 +1,5 @@
 // The circuit kind: a circuit as a value, its limits, and the number and place of a refusal.
+pub mod counts;
 pub mod limits;
 
 // A circuit (01, "The file"): counts and literals, lines in the order of the file.

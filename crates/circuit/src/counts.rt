@@ -1,0 +1,26 @@
+// How many inputs of lent lists are controllable, and how many aren't (01, the table of limits: C and U).
+use bits::bytes::byte_at;
+ghost use mathlib.Core.Bool.{not};
+ghost use mathlib.Core.Path.{_≡_};
+ghost use Rattle.circuit.specs.Circuit.{Input, inputsThat};
+ghost use Rattle.circuit.specs.Stored.{inputsOf};
+
+pub fn controllable_count<'a>(input: &'a [u16], controllable: &'a [u8]) -> usize
+    ensures { λ r. ⌜ r ≡ inputsThat (λ (i : Input). i .controllable) (inputsOf (now (input .entry)) (now (controllable .entry))) ⌝ }
+{
+    let mut n: usize = 0;
+    let mut i = 0;
+    while i < input.len() {
+        if byte_at(controllable, i) != 0 {
+            n += 1;
+        }
+        i += 1;
+    }
+    n
+}
+
+pub fn uncontrollable_count<'a>(input: &'a [u16], controllable: &'a [u8]) -> usize
+    ensures { λ r. ⌜ r ≡ inputsThat (λ (i : Input). not (i .controllable)) (inputsOf (now (input .entry)) (now (controllable .entry))) ⌝ }
+{
+    input.len() - controllable_count(input, controllable)
+}
