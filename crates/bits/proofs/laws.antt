@@ -4,4 +4,8 @@ pub mod ByteBit
 pub mod Bytes
 pub mod Wrote
 pub mod InTurn
+pub mod SameBytes
+pub mod Shift
+pub mod AllBelow
+pub mod Sum
 pub mod Halves

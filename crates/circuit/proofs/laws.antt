@@ -4,3 +4,5 @@ pub mod Answer
 pub mod StoredLiteral
 pub mod Counted
 pub mod Counts
+pub mod Outcome
+pub mod Inputs

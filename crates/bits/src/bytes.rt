@@ -1,0 +1,40 @@
+// Bytes compared, a byte that may not be there, the lowest bits of a number.
+ghost use mathlib.Core.Path.{_≡_};
+ghost use Prim.Native.Nat.{_%_, _^_};
+ghost use lib.ListN.{getD};
+ghost use Rattle.bits.specs.Bytes.{sameBytes};
+
+// The byte at a place; bytes that aren't there count as 0.
+pub fn byte_at(bytes: &[u8], at: usize) -> u8
+    ensures { λ r. ⌜ r ≡ getD (now (bytes .entry)) at 0 ⌝ }
+{
+    if at < bytes.len() { bytes[at] } else { 0 }
+}
+
+// The lowest so many bits of a number; all of them where it has no more.
+pub fn low_bits(n: usize, width: usize) -> usize
+    ensures { λ r. ⌜ r ≡ n % 2 ^ width ⌝ }
+{
+    if width < 64 {
+        n & ((1 << width) - 1)
+    } else {
+        n
+    }
+}
+
+// Whether two lent slices hold the same bytes.
+pub fn same_bytes(a: &[u8], b: &[u8]) -> bool
+    ensures { λ r. ⌜ r ≡ sameBytes (now (a .entry)) (now (b .entry)) ⌝ }
+{
+    if a.len() != b.len() {
+        return false;
+    }
+    let mut i = 0;
+    while i < a.len() {
+        if a[i] != b[i] {
+            return false;
+        }
+        i += 1;
+    }
+    true
+}

@@ -1,0 +1,99 @@
+-- A pass, taken apart: the file is read, the certificate has tables, its circuit part is the file byte by byte, and the tables pass for the
+-- circuit (01, "The certificate": a certificate passes exactly if no number applies). Assumes nothing.
+use Prim.Native.Nat.{ℕ, _*_}
+use mathlib.Core.Bool.{Bool, true, false, not}
+use mathlib.Core.List.{List, _++_}
+use mathlib.Core.Option.{Option, none, some}
+use mathlib.Core.Path.{_≡_, refl, sym, ap, _∙_, subst}
+use borrow.Author.Tests.{not-false}
+use lib.Dec.{ltb}
+use Rattle.bits.specs.Bytes.{sameBytes}
+use Rattle.bits.specs.Digits.{AllBelow}
+use Rattle.bits.proofs.laws.Bytes.{same-bytes-equal}
+use Rattle.circuit.specs.Circuit.{Circuit}
+use Rattle.circuit.specs.Outcome.{Outcome, taken, refused, _>>=_, _>>_, refuseIf}
+use Rattle.circuit.proofs.laws.Outcome.{refused-is-not-taken, bind-taken, passed-test}
+use Rattle.file.specs.CircuitIn.{circuitIn}
+use Rattle.game.specs.CircuitGame.{circuitGame}
+use Rattle.records.specs.Record.{recordOf, split, whole, circuitKind}
+use Rattle.records.specs.Tables.{Tables, replies, attacks, tablesOf, circuitPart}
+use Rattle.records.proofs.laws.Record.{whole-record}
+use Rattle.records.proofs.laws.Tables.{tables-begin}
+use Rattle.checker.specs.Check.{acceptedKinds, orBadShape, tablesChecked, checkOf}
+use Rattle.checker.specs.Numbers.{badTable, badReset, brokenStep, otherCircuit}
+use Rattle.checker.specs.Rules.{badReplyTables, badAttackTable, resetOutside, resetUnranked, brokenReply, brokenAttack}
+
+-- no number applies to a reply table
+pub record RepliesPass (c : Circuit) (region table : List ℕ) : Type 0 where
+  pub sized : badReplyTables c region table ≡ false
+  pub reset : resetOutside c region ≡ false
+  pub rule : ltb (brokenReply c region table) (circuitGame c .states * circuitGame c .readings) ≡ false
+
+-- no number applies to an attack table
+pub record AttacksPass (c : Circuit) (table : List ℕ) : Type 0 where
+  pub sized : badAttackTable c table ≡ false
+  pub reset : resetUnranked c table ≡ false
+  pub rule : ltb (brokenAttack c table) (circuitGame c .states) ≡ false
+
+abbrev pub TablesPass : Circuit → Tables → Type 0
+TablesPass c (replies circuit region kind table) = RepliesPass c region table
+TablesPass c (attacks circuit table) = AttacksPass c table
+
+pub tables-pass : (c : Circuit) (u t : Tables) → tablesChecked c u ≡ taken t → (u ≡ t) × TablesPass c u
+unfolding tablesChecked
+tables-pass c (replies circuit region kind table) t e =
+    let place = brokenReply c region table in
+    let broken = ltb place (circuitGame c .states * circuitGame c .readings) in
+    let fourteen = refuseIf broken brokenStep place >> taken (replies circuit region kind table) in
+    let (sized, e1) = passed-test (badReplyTables c region table) badTable 0 (refuseIf (resetOutside c region) badReset 0 >> fourteen) t e in
+    let (reset, e2) = passed-test (resetOutside c region) badReset 0 fourteen t e1 in
+    let (rule, e3) = passed-test broken brokenStep place (taken (replies circuit region kind table)) t e2 in
+    (cc, record { sized = sized; reset = reset; rule = rule })
+tables-pass c (attacks circuit table) t e =
+    let place = brokenAttack c table in
+    let broken = ltb place (circuitGame c .states) in
+    let fourteen = refuseIf broken brokenStep place >> taken (attacks circuit table) in
+    let (sized, e1) = passed-test (badAttackTable c table) badTable 0 (refuseIf (resetUnranked c table) badReset 0 >> fourteen) t e in
+    let (reset, e2) = passed-test (resetUnranked c table) badReset 0 fourteen t e1 in
+    let (rule, e3) = passed-test broken brokenStep place (taken (attacks circuit table)) t e2 in
+    (cc, record { sized = sized; reset = reset; rule = rule })
+
+pub record Passes (file certificate : List ℕ) (t : Tables) : Type 0 where
+  pub circuit : Circuit
+  pub reads : circuitIn file ≡ taken circuit
+  pub tables : tablesOf acceptedKinds certificate ≡ some t
+  pub same : circuitPart t ≡ file
+  pub fine : TablesPass circuit t
+
+shaped-is : (o : Option Tables) (t : Tables) → orBadShape o ≡ taken t → o ≡ some t
+unfolding orBadShape
+shaped-is none t e = absurd (refused-is-not-taken _ _ t e)
+shaped-is (some u) t e = cc
+
+pub pass-is : (file certificate : List ℕ) (t : Tables) → checkOf file certificate ≡ taken t → Passes file certificate t
+unfolding checkOf
+pass-is file certificate t e =
+    let shape = orBadShape (tablesOf acceptedKinds certificate) in
+    let (c, reads, e1) = bind-taken (circuitIn file) (λ c. shape >>= λ u. refuseIf (not (sameBytes (circuitPart u) file)) otherCircuit 0 >> tablesChecked c u) t e in
+    let (u, shaped, e2) = bind-taken shape (λ u. refuseIf (not (sameBytes (circuitPart u) file)) otherCircuit 0 >> tablesChecked c u) t e1 in
+    let (same, e3) = passed-test (not (sameBytes (circuitPart u) file)) otherCircuit 0 (tablesChecked c u) t e2 in
+    let (is, fine) = tables-pass c u t e3 in
+    subst (Passes file certificate) is
+    (record {
+      circuit = c;
+      reads = reads;
+      tables = shaped-is _ u shaped;
+      same = same-bytes-equal _ _ (not-false _ same);
+      fine = fine;
+    })
+
+-- the circuit part is the file, byte by byte
+pub pass-same-circuit : (file certificate : List ℕ) (t : Tables) → checkOf file certificate ≡ taken t → circuitPart t ≡ file
+pass-same-circuit file certificate t e = pass-is file certificate t e .same
+
+-- and the certificate begins with its record
+pub pass-begins : (file certificate : List ℕ) (t : Tables) → AllBelow 256 certificate → checkOf file certificate ≡ taken t → (rest : List ℕ) × (certificate ≡ recordOf circuitKind file ++ rest)
+pass-begins file certificate t bytes e =
+    let p = pass-is file certificate t e in
+    let (rest, first) = tables-begin acceptedKinds certificate t (p .tables) in
+    (rest, whole-record certificate circuitKind file rest bytes (first ∙ ap (λ (l : List ℕ). whole circuitKind l rest) (p .same)))

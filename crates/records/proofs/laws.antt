@@ -1,0 +1,6 @@
+pub mod Record
+pub mod RecordAt
+pub mod ReplyBytes
+pub mod Shape
+pub mod Tables
+pub mod Parts

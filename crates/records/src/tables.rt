@@ -1,0 +1,82 @@
+// The shape of a certificate (01, "The certificate"): kinds 1, 2, 3 or kinds 1, 4, back to back, and nothing follows.
+use crate::ATTACKS;
+use crate::CIRCUIT;
+use crate::REGION;
+use crate::REPLIES;
+use crate::RecordAt;
+use crate::Shape;
+use crate::record::record_at;
+ghost use mathlib.Core.Path.{_≡_};
+ghost use mathlib.Core.List.{[], _∷_};
+ghost use Prim.Native.Nat.{_+_};
+ghost use lib.ListN.{drop};
+ghost use Rattle.records.specs.Record.{replyKind, split, headLength};
+ghost use Rattle.records.specs.Shape.{shapeOf, part, Within};
+ghost use Rattle.records.specs.Tables.{tablesOf, secondOf, thirdOf};
+
+// Where the contents of a certificate's records start and end.
+pub fn shape_of(certificate: &[u8]) -> Shape
+    ensures { λ r. ⌜ r ≡ shapeOf (tablesOf (replyKind ∷ []) (now (certificate .entry))) ⌝ }
+{
+    let RecordAt::Whole {
+        kind,
+        start: _,
+        end,
+    } = record_at(certificate, 0)
+    else {
+        return Shape::Other;
+    };
+    if kind != CIRCUIT {
+        return Shape::Other;
+    }
+    behind_circuit(certificate, end)
+}
+
+// What stands behind the circuit record, whose contents end at `circuit`.
+fn behind_circuit(certificate: &[u8], circuit: usize) -> Shape
+    requires { ⌜ Within (now certificate) headLength circuit ⌝ }
+    ensures { λ r. ⌜ r ≡ shapeOf (secondOf (replyKind ∷ []) (part headLength circuit (now (certificate .entry))) (split (drop circuit (now (certificate .entry))))) ⌝ }
+{
+    let RecordAt::Whole { kind, start, end } = record_at(certificate, circuit) else {
+        return Shape::Other;
+    };
+    if kind == REGION {
+        return behind_region(certificate, circuit, start, end);
+    }
+    if kind != ATTACKS {
+        return Shape::Other;
+    }
+    if end != certificate.len() {
+        return Shape::Other;
+    }
+    Shape::Attacks {
+        circuit_end: circuit,
+        table: start,
+        table_end: end,
+    }
+}
+
+// What stands behind the region record, whose contents start at `region` and end at `behind`.
+fn behind_region(certificate: &[u8], circuit: usize, region: usize, behind: usize) -> Shape
+    requires { ⌜ Within (now certificate) headLength circuit ⌝ }
+    requires { ⌜ Within (now certificate) region behind ⌝ }
+    requires { ⌜ region ≡ circuit + headLength ⌝ }
+    ensures { λ r. ⌜ r ≡ shapeOf (thirdOf (replyKind ∷ []) (part headLength circuit (now (certificate .entry))) (part region behind (now (certificate .entry))) (split (drop behind (now (certificate .entry))))) ⌝ }
+{
+    let RecordAt::Whole { kind, start, end } = record_at(certificate, behind) else {
+        return Shape::Other;
+    };
+    if kind != REPLIES {
+        return Shape::Other;
+    }
+    if end != certificate.len() {
+        return Shape::Other;
+    }
+    Shape::Replies {
+        circuit_end: circuit,
+        region,
+        region_end: behind,
+        table: start,
+        table_end: end,
+    }
+}
