@@ -3,3 +3,4 @@ pub mod StoredLiteral
 pub mod Counted
 pub mod Outcome
 pub mod Inputs
+pub mod Solvable

@@ -1,8 +1,11 @@
 // How many inputs of lent lists are controllable, and how many aren't (01, the table of limits: C and U).
+use crate::Circuit;
 use bits::bytes::byte_at;
-ghost use mathlib.Core.Bool.{not};
+ghost use mathlib.Core.Bool.{not, _||_};
 ghost use mathlib.Core.Path.{_≡_};
+ghost use lib.Dec.{ltb};
 ghost use Rattle.circuit.specs.Circuit.{Input, inputsThat};
+ghost use Rattle.circuit.specs.Limits.{base};
 ghost use Rattle.circuit.specs.Stored.{inputsOf};
 
 pub fn controllable_count<'a>(input: &'a [u16], controllable: &'a [u8]) -> usize
@@ -23,4 +26,14 @@ pub fn uncontrollable_count<'a>(input: &'a [u16], controllable: &'a [u8]) -> usi
     ensures { λ r. ⌜ r ≡ inputsThat (λ (i : Input). not (i .controllable)) (inputsOf (now (input .entry)) (now (controllable .entry))) ⌝ }
 {
     input.len() - controllable_count(input, controllable)
+}
+
+// Whether these are more than a circuit may have.
+pub fn too_many(uncontrollable: usize, controllable: usize) -> bool
+    ensures { λ r. ⌜ r ≡ (ltb (base .uncontrollable) uncontrollable || ltb (base .controllable) controllable) ⌝ }
+{
+    if Circuit::UNCONTROLLABLE < uncontrollable {
+        return true;
+    }
+    Circuit::CONTROLLABLE < controllable
 }
