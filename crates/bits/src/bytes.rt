@@ -1,7 +1,9 @@
 // Bytes compared, a byte that may not be there, the lowest bits of a number.
 ghost use mathlib.Core.Path.{_≡_};
 ghost use Prim.Native.Nat.{_%_, _^_};
+ghost use lib.Dec.{eqb};
 ghost use lib.ListN.{getD};
+ghost use Rattle.bits.specs.ByteBit.{byteBit};
 ghost use Rattle.bits.specs.Bytes.{sameBytes};
 
 // The byte at a place; bytes that aren't there count as 0.
@@ -9,6 +11,14 @@ pub fn byte_at(bytes: &[u8], at: usize) -> u8
     ensures { λ r. ⌜ r ≡ getD (now (bytes .entry)) at 0 ⌝ }
 {
     if at < bytes.len() { bytes[at] } else { 0 }
+}
+
+// Whether a bit of bytes is 1: a shift and a mask on its byte.
+pub fn byte_bit(bytes: &[u8], at: usize) -> bool
+    ensures { λ r. ⌜ r ≡ eqb (byteBit (now (bytes .entry)) at) 1 ⌝ }
+{
+    let byte = byte_at(bytes, at / 8);
+    (byte >> (at % 8)) & 1 == 1
 }
 
 // The lowest so many bits of a number; all of them where it has no more.

@@ -1,3 +1,11 @@
 pub mod Pass
 pub mod Rules
 pub mod Means
+pub mod CircuitChecked
+pub mod Faults
+pub mod Judged
+pub mod Places
+pub mod Defeats
+pub mod Sizes
+pub mod Shaped
+pub mod Counted

@@ -2,3 +2,6 @@ pub mod Numbers
 pub mod Rules
 pub mod Check
 pub mod Answer
+pub mod CircuitChecked
+pub mod Counted
+pub mod Faults

@@ -6,3 +6,4 @@ pub mod Counted
 pub mod Counts
 pub mod Outcome
 pub mod Inputs
+pub mod Solvable

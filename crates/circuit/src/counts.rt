@@ -1,11 +1,13 @@
-// The inputs of lent lists, counted (01, the table of limits).
+// How many inputs of lent lists are controllable, and how many aren't (01, the table of limits: C and U).
+use crate::Circuit;
 use bits::bytes::byte_at;
-ghost use mathlib.Core.Bool.{not};
+ghost use mathlib.Core.Bool.{not, _||_};
 ghost use mathlib.Core.Path.{_≡_};
-ghost use lib.Dec.{eqb};
+ghost use lib.Dec.{eqb, ltb};
 ghost use lib.ListN.{getD};
 ghost use Rattle.bits.specs.Bit.{oneIf};
 ghost use Rattle.circuit.specs.Circuit.{Input, inputsThat};
+ghost use Rattle.circuit.specs.Limits.{base};
 ghost use Rattle.circuit.specs.Stored.{inputsOf};
 
 // How many are controllable; the others are uncontrollable.
@@ -50,4 +52,14 @@ pub fn uncontrollable_count<'a>(input: &'a [u16], controllable: &'a [u8]) -> usi
     ensures { λ r. ⌜ r ≡ inputsThat (λ (i : Input). not (i .controllable)) (inputsOf (now (input .entry)) (now (controllable .entry))) ⌝ }
 {
     input.len() - controllable_count(input, controllable)
+}
+
+// Whether these are more than a circuit may have.
+pub fn too_many(uncontrollable: usize, controllable: usize) -> bool
+    ensures { λ r. ⌜ r ≡ (ltb (base .uncontrollable) uncontrollable || ltb (base .controllable) controllable) ⌝ }
+{
+    if Circuit::UNCONTROLLABLE < uncontrollable {
+        return true;
+    }
+    Circuit::CONTROLLABLE < controllable
 }

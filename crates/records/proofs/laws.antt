@@ -4,3 +4,4 @@ pub mod ReplyBytes
 pub mod Shape
 pub mod Tables
 pub mod Parts
+pub mod UnusedBits

@@ -1,6 +1,7 @@
 // What the tables of a certificate store (01, "The certificate", kinds 2, 3 and 4). Bits of a state or reading above its count aren't
 // read; bytes that aren't there count as 0.
 use bits::bytes::byte_at;
+use bits::bytes::byte_bit;
 use bits::bytes::low_bits;
 ghost use mathlib.Core.Path.{_≡_};
 ghost use Prim.Native.Nat.{_+_, _*_, _%_, _^_, _<_};
@@ -9,13 +10,11 @@ ghost use Rattle.records.specs.RegionBits.{holdsState};
 ghost use Rattle.records.specs.ReplyBytes.{storedReply};
 ghost use Rattle.records.specs.AttackTable.{storedRank, storedAttack};
 
-// Whether the region holds a state: a shift and a mask on its byte.
+// Whether the region holds a state: a bit of its bytes.
 pub fn holds_state(bytes: &[u8], latches: usize, state: usize) -> bool
     ensures { λ r. ⌜ r ≡ holdsState (now (bytes .entry)) latches state ⌝ }
 {
-    let s = low_bits(state, latches);
-    let byte = byte_at(bytes, s / 8);
-    (byte >> (s % 8)) & 1 == 1
+    byte_bit(bytes, low_bits(state, latches))
 }
 
 // The stored reply to a reading at a state. An index above every length is never computed.

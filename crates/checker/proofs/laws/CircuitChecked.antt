@@ -1,0 +1,127 @@
+-- The check of a file and a certificate is the reading of the file and then the check for the circuit; and that is 11, 12 and then the
+-- judging of the tables. The largest variable isn't looked at. Assumes nothing.
+use Prim.Native.Nat.{ℕ, _*_}
+use mathlib.Core.Bool.{Bool, true, false, cond, not}
+use mathlib.Core.List.{List}
+use mathlib.Core.Option.{Option, none, some}
+use mathlib.Core.Path.{_≡_, refl, sym, ap, _∙_}
+use lib.Dec.{ltb}
+use Rattle.bits.specs.Bytes.{sameBytes}
+use Rattle.circuit.specs.Circuit.{Circuit, latchCount, uncontrollableCount, controllableCount, tooMany}
+use Rattle.circuit.specs.Limits.{base}
+use Rattle.circuit.specs.Outcome.{Outcome, taken, refused, _>>=_, _>>_, refuseIf}
+use Rattle.circuit.specs.Reset.{isReset}
+use Rattle.circuit.specs.Stored.{lent, emptyCircuit, solvable}
+use Rattle.file.specs.CircuitIn.{circuitIn}
+use Rattle.game.specs.CircuitGame.{circuitGame}
+use Rattle.records.specs.Tables.{Tables, replies, attacks, tablesOf, circuitPart}
+use Rattle.step.specs.Step.{step, errorOf, nextOf}
+use Rattle.step.specs.Value.{valuation}
+use Rattle.checker.specs.Answer.{Starts, startsOf, answerOf}
+use Rattle.checker.specs.Check.{acceptedKinds, orBadShape, tablesChecked, checkOf}
+use Rattle.checker.specs.CircuitChecked.{circuitChecked, repliesJudged, attacksJudged}
+use Rattle.checker.specs.Numbers.{badShape, otherCircuit, badTable, badReset, brokenStep}
+use Rattle.checker.specs.Rules.{badReplyTables, badAttackTable, resetOutside, resetUnranked, brokenReply, brokenAttack}
+
+bind-bind : {A B C : Type 0} (o : Outcome A) (f : A → Outcome B) (g : B → Outcome C) → (o >>= f >>= g) ≡ (o >>= λ a. f a >>= g)
+bind-bind (taken a) f g = refl
+bind-bind (refused number place) f g = refl
+
+then-bind : {B C : Type 0} (t : Bool) (number place : ℕ) (next : Outcome B) (g : B → Outcome C) → (refuseIf t number place >> next >>= g) ≡ (refuseIf t number place >> (next >>= g))
+unfolding refuseIf
+then-bind true number place next g = refl
+then-bind false number place next g = refl
+
+-- reading, then the check for the circuit
+pub answer-is-checked : (file certificate : List ℕ) → answerOf file certificate ≡ (circuitIn file >>= λ c. circuitChecked c file certificate)
+unfolding answerOf checkOf circuitChecked
+answer-is-checked file certificate = by (circuitIn file)
+  where
+    test : Circuit → Tables → Outcome Tables
+    test c t = refuseIf (not (sameBytes (circuitPart t) file)) otherCircuit 0 >> tablesChecked c t
+
+    judge : (c : Circuit) (o : Outcome Tables) → (o >>= test c >>= λ t. taken (startsOf c t)) ≡ (o >>= λ t. refuseIf (not (sameBytes (circuitPart t) file)) otherCircuit 0 >> (tablesChecked c t >>= λ u. taken (startsOf c u)))
+    judge c (taken t) = then-bind (not (sameBytes (circuitPart t) file)) otherCircuit 0 (tablesChecked c t) (λ u. taken (startsOf c u))
+    judge c (refused number place) = refl
+
+    by : (o : Outcome Circuit) → (o >>= λ c. o >>= (λ d. orBadShape (tablesOf acceptedKinds certificate) >>= test d) >>= λ t. taken (startsOf c t)) ≡ (o >>= λ c. orBadShape (tablesOf acceptedKinds certificate) >>= λ t. refuseIf (not (sameBytes (circuitPart t) file)) otherCircuit 0 >> (tablesChecked c t >>= λ u. taken (startsOf c u)))
+    by (taken c) = judge c (orBadShape (tablesOf acceptedKinds certificate))
+    by (refused number place) = refl
+
+-- the judging of each kind of table
+pub replies-judged : (c : Circuit) (circuit region : List ℕ) (kind : ℕ) (table : List ℕ) → (tablesChecked c (replies circuit region kind table) >>= λ u. taken (startsOf c u)) ≡ repliesJudged c region table (startsOf c (replies circuit region kind table))
+unfolding tablesChecked repliesJudged
+replies-judged c circuit region kind table =
+    let place = brokenReply c region table in
+    let broken = ltb place (circuitGame c .states * circuitGame c .readings) in
+    let last = refuseIf broken brokenStep place >> taken (replies circuit region kind table) in
+    then-bind (badReplyTables c region table) badTable 0 (refuseIf (resetOutside c region) badReset 0 >> last) (λ u. taken (startsOf c u))
+    ∙ ap (λ (o : Outcome Starts). refuseIf (badReplyTables c region table) badTable 0 >> o)
+    (then-bind (resetOutside c region) badReset 0 last (λ u. taken (startsOf c u))
+    ∙ ap (λ (o : Outcome Starts). refuseIf (resetOutside c region) badReset 0 >> o)
+    (then-bind broken brokenStep place (taken (replies circuit region kind table)) (λ u. taken (startsOf c u))))
+
+pub attacks-judged : (c : Circuit) (circuit table : List ℕ) → (tablesChecked c (attacks circuit table) >>= λ u. taken (startsOf c u)) ≡ attacksJudged c table (startsOf c (attacks circuit table))
+unfolding tablesChecked attacksJudged
+attacks-judged c circuit table =
+    let place = brokenAttack c table in
+    let broken = ltb place (circuitGame c .states) in
+    let last = refuseIf broken brokenStep place >> taken (attacks circuit table) in
+    then-bind (badAttackTable c table) badTable 0 (refuseIf (resetUnranked c table) badReset 0 >> last) (λ u. taken (startsOf c u))
+    ∙ ap (λ (o : Outcome Starts). refuseIf (badAttackTable c table) badTable 0 >> o)
+    (then-bind (resetUnranked c table) badReset 0 last (λ u. taken (startsOf c u))
+    ∙ ap (λ (o : Outcome Starts). refuseIf (resetUnranked c table) badReset 0 >> o)
+    (then-bind broken brokenStep place (taken (attacks circuit table)) (λ u. taken (startsOf c u))))
+
+-- 11 and 12
+module _ (c : Circuit) (file certificate : List ℕ) where
+  pub misshapen-refused : tablesOf acceptedKinds certificate ≡ none → circuitChecked c file certificate ≡ refused badShape 0
+  unfolding circuitChecked orBadShape
+  misshapen-refused e = rw e
+
+  module _ (t : Tables) (e : tablesOf acceptedKinds certificate ≡ some t) where
+    shaped-goes-on : circuitChecked c file certificate ≡ (refuseIf (not (sameBytes (circuitPart t) file)) otherCircuit 0 >> (tablesChecked c t >>= λ u. taken (startsOf c u)))
+    unfolding circuitChecked orBadShape
+    shaped-goes-on = rw e
+
+    pub other-refused : sameBytes (circuitPart t) file ≡ false → circuitChecked c file certificate ≡ refused otherCircuit 0
+    unfolding refuseIf
+    other-refused f = shaped-goes-on ∙ rw f
+
+    pub same-goes-on : sameBytes (circuitPart t) file ≡ true → circuitChecked c file certificate ≡ (tablesChecked c t >>= λ u. taken (startsOf c u))
+    unfolding refuseIf
+    same-goes-on f = shaped-goes-on ∙ rw f
+
+-- the largest variable isn't looked at
+module _ (input controllable latch next : List ℕ) (output : ℕ) (gate left right : List ℕ) (m n : ℕ) where
+  pub largest-not-checked : (file certificate : List ℕ) → circuitChecked (lent m input controllable latch next output gate left right) file certificate ≡ circuitChecked (lent n input controllable latch next output gate left right) file certificate
+  unfolding circuitChecked repliesJudged attacksJudged startsOf badReplyTables badAttackTable resetOutside resetUnranked isReset brokenReply brokenAttack circuitGame latchCount uncontrollableCount controllableCount step errorOf nextOf valuation lent
+  largest-not-checked file certificate = by (orBadShape (tablesOf acceptedKinds certificate))
+    where
+      c : Circuit
+      c = lent m input controllable latch next output gate left right
+
+      d : Circuit
+      d = lent n input controllable latch next output gate left right
+
+      tables : (t : Tables) → (tablesChecked c t >>= λ u. taken (startsOf c u)) ≡ (tablesChecked d t >>= λ u. taken (startsOf d u))
+      tables (replies circuit region kind table) = replies-judged c circuit region kind table ∙ same ∙ sym (replies-judged d circuit region kind table)
+        where
+          same : repliesJudged c region table (startsOf c (replies circuit region kind table)) ≡ repliesJudged d region table (startsOf d (replies circuit region kind table))
+          same = refl
+      tables (attacks circuit table) = attacks-judged c circuit table ∙ same ∙ sym (attacks-judged d circuit table)
+        where
+          same : attacksJudged c table (startsOf c (attacks circuit table)) ≡ attacksJudged d table (startsOf d (attacks circuit table))
+          same = refl
+
+      by : (o : Outcome Tables) → (o >>= λ t. refuseIf (not (sameBytes (circuitPart t) file)) otherCircuit 0 >> (tablesChecked c t >>= λ u. taken (startsOf c u))) ≡ (o >>= λ t. refuseIf (not (sameBytes (circuitPart t) file)) otherCircuit 0 >> (tablesChecked d t >>= λ u. taken (startsOf d u)))
+      by (taken t) = ap (λ (o : Outcome Starts). refuseIf (not (sameBytes (circuitPart t) file)) otherCircuit 0 >> o) (tables t)
+      by (refused number place) = refl
+
+  pub largest-not-solved : (file certificate : List ℕ) → circuitChecked (solvable (lent m input controllable latch next output gate left right)) file certificate ≡ circuitChecked (solvable (lent n input controllable latch next output gate left right)) file certificate
+  unfolding solvable tooMany uncontrollableCount controllableCount lent
+  largest-not-solved file certificate = by (tooMany base (lent m input controllable latch next output gate left right))
+    where
+      by : (b : Bool) → circuitChecked (cond b emptyCircuit (lent m input controllable latch next output gate left right)) file certificate ≡ circuitChecked (cond b emptyCircuit (lent n input controllable latch next output gate left right)) file certificate
+      by true = refl
+      by false = largest-not-checked file certificate

@@ -1,0 +1,58 @@
+-- `checker::replies::badly_sized` meets its contract: each test is one that the sizes ask. Assumes nothing.
+use Prim.Native.Nat.{ℕ, _+_, _/_}
+use native.Mathlib.Omega.{arith}
+use mathlib.Core.Path.{refl, ap}
+use lib.Pow.{pow-mono}
+use Rattle.circuit.specs.Limits.{base}
+use Rattle.records.specs.RegionBits.{regionLength}
+use Rattle.records.specs.ReplyBytes.{replyLength}
+use Rattle.checker.proofs.laws.Sizes.{bad-region, bad-table, well-sized}
+use borrow.Author.Needs.{needs}
+use Rattle.checker.proofs.replies.badly_sized.Statement.{statement}
+use Rattle.checker.proofs.replies.badly_sized.Tie as tie
+
+power-requires : tie.Need-power-requires
+power-requires c κs = search needs
+
+add-if1 : tie.Need-add-if1
+add-if1 c = omega (arith, c .power .ensures, pow-mono {i = c .before .before .before .args .latches} {j = base .latches} (c .before .before .before .pre .0))
+
+returns : tie.Need-returns
+unfolding regionLength replyLength
+returns c =
+    let a = c .before .before .before .before .args in
+    bad-region (a .region .now) (a .table .now) (a .latches) (a .readings) ((c .before .power .result + 7) / 8) (replyLength (a .latches) (a .readings)) (ap (λ (n : ℕ). (n + 7) / 8) (c .before .power .ensures)) refl (c .if1 .taken)
+
+add-power : tie.Need-add-power
+add-power c = search needs
+
+power-requires-2 : tie.Need-power-requires-2
+power-requires-2 c κs = search needs
+
+returns-2 : tie.Need-returns-2
+unfolding regionLength replyLength
+returns-2 c =
+    let a = c .before .before .before .before .before .before .args in
+    bad-table (a .region .now) (a .table .now) (a .latches) (a .readings) ((c .before .before .before .power .result + 7) / 8) (c .before .power2 .result) (ap (λ (n : ℕ). (n + 7) / 8) (c .before .before .before .power .ensures)) (c .before .power2 .ensures) (c .before .before .if1 .left) (c .if2 .taken)
+
+unused-bit-set-requires : tie.Need-unused-bit-set-requires
+unused-bit-set-requires c κs = (c .before .before .before .before .before .before .pre .0, omega (arith, c .before .before .before .power .ensures, c .before .before .if1 .left, pow-mono {i = c .before .before .before .before .before .before .args .latches} {j = base .latches} (c .before .before .before .before .before .before .pre .0)))
+
+returns-3 : tie.Need-returns-3
+unfolding regionLength replyLength
+returns-3 c =
+    let a = c .before .before .before .before .before .before .before .args in
+    well-sized (a .region .now) (a .table .now) (a .latches) (a .readings) ((c .before .before .before .before .power .result + 7) / 8) (c .before .before .power2 .result) (ap (λ (n : ℕ). (n + 7) / 8) (c .before .before .before .before .power .ensures)) (c .before .before .power2 .ensures) (c .before .before .before .if1 .left) (c .before .if2 .left) (c .unused-bit-set .result) (c .unused-bit-set .ensures)
+
+pub badly-sized-spec : {M : Type 1} → statement M
+badly-sized-spec =
+    tie.close
+    (tie.spec
+    power-requires
+    add-if1
+    returns
+    add-power
+    power-requires-2
+    returns-2
+    unused-bit-set-requires
+    returns-3)
