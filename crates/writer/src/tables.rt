@@ -175,7 +175,7 @@ pub(crate) fn put_attacks<'a>(
 
 // A rank, little-endian, and an attack.
 fn put_row(out: &mut [u8], at: usize, rank: u16, attack: u8) -> usize
-    requires { ⌜ at < 2 ^ 64 - 3 ⌝ }
+    requires { ⌜ at + 3 < 2 ^ 64 ⌝ }
     ensures { λ r. ⌜ Wrote (digits 256 2 rank ++ (attack ∷ [])) at (now (out .entry)) (now (out .exit)) r ⌝ }
 {
     let row = [(rank % 256) as u8, (rank / 256 % 256) as u8, attack];

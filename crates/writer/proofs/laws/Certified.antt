@@ -27,9 +27,9 @@ use Rattle.writer.specs.Answer.{Verdict, certifiedOutcome, certificateFo
 use Rattle.writer.specs.Certificate.{replyCertificate, attackCertificate, certificateOf}
 
 -- a head and the contents behind it
-pub wrote-record : {kind n at mid next : ℕ} {contents before between after : List ℕ} → Wrote (digits 256 4 n ++ digits 256 2 kind) at before between mid → n ≡ length contents → Wrote contents mid between after next → Wrote (recordOf kind contents) at before after next
+pub wrote-record : (kind n : ℕ) {at mid next : ℕ} {contents before between after : List ℕ} → Wrote (digits 256 4 n ++ digits 256 2 kind) at before between mid → n ≡ length contents → Wrote contents mid between after next → Wrote (recordOf kind contents) at before after next
 unfolding recordOf
-wrote-record {kind} {n} {at} {mid} {next} {contents} {before} {between} {after} h e w = wrote-both (subst (λ (k : ℕ). Wrote (digits 256 4 k ++ digits 256 2 kind) at before between mid) e h) w
+wrote-record kind n {at} {mid} {before = before} {between} h e w = wrote-both (subst (λ (k : ℕ). Wrote (digits 256 4 k ++ digits 256 2 kind) at before between mid) e h) w
 
 pub replies-of : (file : List ℕ) (c : Circuit) → isRealizable c ≡ true → certificateOf file c ≡ replyCertificate file c
 unfolding certificateOf
@@ -59,22 +59,24 @@ module _ (file : List ℕ) (c : Circuit) {before after : List ℕ} where
   pub certified-replies : (n : ℕ) → isRealizable c ≡ true → length (replyCertificate file c) ≤ length before → Wrote (replyCertificate file c) 0 before after n → CertifiedAs file (taken c) before after (Realizable n)
   unfolding certifiedOutcome certificateFor verdictFor
   certified-replies n e h w =
-      rw (replies-of file c e, fitted-taken (replyCertificate file c) (length before) h, e)
-      (record {
-        answer = ap (λ (k : ℕ). taken {A = Verdict} (record { realizable = true; count = k })) (counts (replyCertificate file c) n w);
-        bytes = stands (replyCertificate file c) n h w;
-      })
+      record {
+        answer = rw (replies-of file c e, fitted-taken (replyCertificate file c) (length before) h, e) (ap {B = Outcome Verdict} (λ (k : ℕ). taken (record { realizable = true; count = k })) (counts (replyCertificate file c) n w));
+        bytes = rw (replies-of file c e, fitted-taken (replyCertificate file c) (length before) h) (stands (replyCertificate file c) n h w);
+      }
 
   pub certified-attacks : (n : ℕ) → isRealizable c ≡ false → length (attackCertificate file c) ≤ length before → Wrote (attackCertificate file c) 0 before after n → CertifiedAs file (taken c) before after (Unrealizable n)
   unfolding certifiedOutcome certificateFor verdictFor
   certified-attacks n e h w =
-      rw (attacks-of file c e, fitted-taken (attackCertificate file c) (length before) h, e)
-      (record {
-        answer = ap (λ (k : ℕ). taken {A = Verdict} (record { realizable = false; count = k })) (counts (attackCertificate file c) n w);
-        bytes = stands (attackCertificate file c) n h w;
-      })
+      record {
+        answer = rw (attacks-of file c e, fitted-taken (attackCertificate file c) (length before) h, e) (ap {B = Outcome Verdict} (λ (k : ℕ). taken (record { realizable = false; count = k })) (counts (attackCertificate file c) n w));
+        bytes = rw (attacks-of file c e, fitted-taken (attackCertificate file c) (length before) h) (stands (attackCertificate file c) n h w);
+      }
 
 -- the buffer is too short
 pub certified-refused : (file : List ℕ) (c : Circuit) (buffer : List ℕ) → length buffer < length (certificateOf file c) → CertifiedAs file (taken c) buffer buffer (Refused (record { number = noRoom; place = 0 }))
 unfolding certifiedOutcome certificateFor verdictFor bufferAfter
-certified-refused file c buffer h = rw (fitted-refused (certificateOf file c) (length buffer) h) (record { answer = refl; bytes = refl })
+certified-refused file c buffer h =
+    record {
+      answer = rw (fitted-refused (certificateOf file c) (length buffer) h);
+      bytes = rw (fitted-refused (certificateOf file c) (length buffer) h);
+    }

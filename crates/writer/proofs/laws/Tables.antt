@@ -1,11 +1,11 @@
 -- What the code writes for a solved circuit are the tables of its certificate: the region of the states of rank 0, the replies, and the
 -- ranks with the attacks. Assumes nothing.
-use Prim.Native.Nat.{ℕ, zero, suc, _+_, _*_, _/_, _%_, _^_, _<_, _≤_}
+use Prim.Native.Nat.{ℕ, _+_, _*_, _/_, _%_, _^_, _<_, _≤_}
 use native.Mathlib.Nat.{div-lt-iff-lt-mul, mod-lt}
 use native.Mathlib.Decide.{decLt}
 use native.Mathlib.Omega.{arith}
 use mathlib.Core.Bool.{Bool, not, _&&_}
-use mathlib.Core.List.{List, [], _∷_, _++_, append-nil, append-assoc, flatMap}
+use mathlib.Core.List.{List, [], _∷_, _++_, flatMap}
 use mathlib.Core.Path.{_≡_, refl, sym, ap, ap₂, _∙_}
 use lib.Dec.{ltb}
 use lib.Pow.{pow-add, pow-pos, pow-mono}
@@ -27,6 +27,7 @@ use Rattle.moves.specs.Played.{played, ranksIn}
 use Rattle.records.specs.AttackTable.{attackBytes}
 use Rattle.records.specs.RegionBits.{regionBytes, regionLength}
 use Rattle.records.specs.ReplyBytes.{replyBytes, replyLength}
+use Rattle.records.proofs.laws.Rows.{rows-in-turn}
 use Rattle.solver.specs.Over.{rankZero, replyOver, attackOver}
 use Rattle.solver.specs.RankTable.{rankTable}
 use Rattle.solver.proofs.laws.RankTable.{rank-in-table}
@@ -34,17 +35,6 @@ use Rattle.solver.proofs.laws.Solution.{solved-reply, solved-attack}
 use Rattle.solver.proofs.laws.Solved.{small-solvable}
 use Rattle.writer.specs.Rows.{regionByte, attackRow}
 use Rattle.writer.specs.Solved.{Solved}
-
--- rows behind a row are those of a list with one more at its end
-flat-snoc : (f : ℕ → List ℕ) (xs : List ℕ) (x : ℕ) → flatMap f (xs ++ (x ∷ [])) ≡ flatMap f xs ++ f x
-unfolding flatMap
-flat-snoc f [] x = append-nil (f x)
-flat-snoc f (y ∷ ys) x = ap (λ (l : List ℕ). f y ++ l) (flat-snoc f ys x) ∙ sym (append-assoc (f y) (flatMap f ys) (f x))
-
-flat-in-turn : (f : ℕ → List ℕ) (n : ℕ) → inTurn f n ≡ flatMap f (table (λ s. s) n)
-unfolding inTurn table flatMap
-flat-in-turn f zero = refl
-flat-in-turn f (suc n) = ap (λ (l : List ℕ). l ++ f n) (flat-in-turn f n) ∙ sym (flat-snoc f (table (λ s. s) n) n)
 
 module _ (c : Circuit) (states readings controls : ℕ) (ranks : List ℕ) (solved : Solved c states readings controls ranks) where
   few : circuitGame c .states ≤ 2 ^ base .latches
@@ -90,7 +80,7 @@ module _ (c : Circuit) (states readings controls : ℕ) (ranks : List ℕ) (solv
   unfolding attackBytes attackRow
   attacks-written =
       in-turn-same _ (attackRow (rank (circuitGame c)) (attack (circuitGame c))) states (λ s h. ap₂ (λ (r a : ℕ). digits 256 2 r ++ (a ∷ [])) (rank-is s h) (at s h))
-      ∙ flat-in-turn (attackRow (rank (circuitGame c)) (attack (circuitGame c))) states
+      ∙ rows-in-turn (attackRow (rank (circuitGame c)) (attack (circuitGame c))) states
       ∙ ap (λ (n : ℕ). flatMap (attackRow (rank (circuitGame c)) (attack (circuitGame c))) (table (λ s. s) n)) (solved .statesAre)
     where
       at : (s : ℕ) → s < states → attackOver (played readings controls c) ranks s ≡ attack (circuitGame c) s

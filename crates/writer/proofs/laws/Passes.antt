@@ -1,0 +1,88 @@
+-- What is written passes (the mission's rule 3): the certificate of a circuit that was read from a file passes the check against that
+-- file, and the check takes its tables. Assumes nothing.
+use Prim.Native.Nat.{ℕ, _+_, _*_, _/_, _^_, _<_, _≤_}
+use native.Mathlib.Omega.{arith}
+use mathlib.Core.Bool.{Bool, true, false, cond, not}
+use mathlib.Core.List.{List}
+use mathlib.Core.Option.{some}
+use mathlib.Core.Path.{_≡_, refl, sym, ap, _∙_}
+use lib.Dec.{ltb}
+use lib.ListN.{length}
+use lib.Pow.{pow-mono}
+use Rattle.bits.specs.Bytes.{sameBytes}
+use Rattle.bits.proofs.laws.SameBytes.{equal-same-bytes}
+use Rattle.circuit.specs.Circuit.{Circuit, latchCount, uncontrollableCount}
+use Rattle.circuit.specs.Limits.{base}
+use Rattle.circuit.specs.Outcome.{Outcome, taken, _>>=_, _>>_, refuseIf}
+use Rattle.circuit.proofs.laws.Outcome.{test-passes}
+use Rattle.file.specs.CircuitIn.{circuitIn}
+use Rattle.game.specs.Attack.{attack}
+use Rattle.game.specs.CircuitGame.{circuitGame, isRealizable}
+use Rattle.game.specs.Rank.{rank, inRegion}
+use Rattle.game.specs.Reply.{reply}
+use Rattle.records.specs.AttackTable.{attackLength}
+use Rattle.records.specs.Record.{replyKind}
+use Rattle.records.specs.RegionBits.{regionLength}
+use Rattle.records.specs.ReplyBytes.{replyLength}
+use Rattle.records.specs.Tables.{Tables, replies, attacks, tablesOf, circuitPart}
+use Rattle.records.proofs.laws.Lengths.{length-region, length-replies, length-attacks}
+use Rattle.records.proofs.laws.WrittenShape.{replies-shape, attacks-shape}
+use Rattle.checker.specs.Check.{acceptedKinds, orBadShape, tablesChecked, checkOf}
+use Rattle.checker.specs.Numbers.{otherCircuit, badTable, badReset, brokenStep}
+use Rattle.checker.specs.Rules.{badReplyTables, badAttackTable, resetOutside, resetUnranked, brokenReply, brokenAttack}
+use Rattle.checker.proofs.laws.Pass.{TablesPass}
+use Rattle.writer.specs.Certificate.{replyCertificate, attackCertificate, certificateOf}
+use Rattle.writer.proofs.laws.Certified.{replies-of, attacks-of}
+use Rattle.writer.proofs.laws.RulesKept.{ownRegion, ownReplies, ownAttacks, replies-pass, attacks-pass}
+use Rattle.writer.proofs.laws.Within.{Within, read-within}
+
+-- the tables of the certificate of a circuit
+unfoldable pub ownTables : List ℕ → Circuit → Tables
+ownTables file c = cond (isRealizable c) (replies file (ownRegion c) replyKind (ownReplies c)) (attacks file (ownAttacks c))
+
+-- no test of the check refuses tables that pass
+checked-taken : (c : Circuit) (t : Tables) → TablesPass c t → tablesChecked c t ≡ taken t
+unfolding tablesChecked
+checked-taken c (replies circuit region kind table) p =
+    test-passes (badReplyTables c region table) badTable 0 _ (p .sized)
+    ∙ test-passes (resetOutside c region) badReset 0 _ (p .reset)
+    ∙ test-passes (ltb (brokenReply c region table) (circuitGame c .states * circuitGame c .readings)) brokenStep (brokenReply c region table) _ (p .rule)
+checked-taken c (attacks circuit table) p =
+    test-passes (badAttackTable c table) badTable 0 _ (p .sized)
+    ∙ test-passes (resetUnranked c table) badReset 0 _ (p .reset)
+    ∙ test-passes (ltb (brokenAttack c table) (circuitGame c .states)) brokenStep (brokenAttack c table) _ (p .rule)
+
+-- a certificate whose tables pass, of this circuit file, passes
+pub passes-of : (file certificate : List ℕ) (c : Circuit) (t : Tables) → circuitIn file ≡ taken c → tablesOf acceptedKinds certificate ≡ some t → circuitPart t ≡ file → TablesPass c t → checkOf file certificate ≡ taken t
+unfolding checkOf orBadShape
+passes-of file certificate c t reads shape same fine =
+    rw (reads, shape)
+    (test-passes (not (sameBytes (circuitPart t) file)) otherCircuit 0 (tablesChecked c t) (ap not (equal-same-bytes (circuitPart t) file same))
+    ∙ checked-taken c t fine)
+
+module _ (file : List ℕ) (c : Circuit) (within : Within file c) where
+  few : 2 ^ latchCount c ≤ 2 ^ base .latches
+  few = pow-mono (within .fewLatches)
+
+  pub reply-tables : tablesOf acceptedKinds (replyCertificate file c) ≡ some (replies file (ownRegion c) replyKind (ownReplies c))
+  unfolding replyCertificate ownRegion ownReplies regionLength replyLength
+  reply-tables =
+      replies-shape file (omega (arith, within .short)) (ownRegion c) (ownReplies c)
+      (omega (arith, length-region (inRegion (circuitGame c)) (latchCount c), few))
+      (omega (arith, length-replies (reply (circuitGame c)) (latchCount c) (uncontrollableCount c), pow-mono {i = latchCount c + uncontrollableCount c} {j = base .latches + base .uncontrollable} (omega (arith, within .fewLatches, within .fewReadings))))
+
+  pub attack-tables : tablesOf acceptedKinds (attackCertificate file c) ≡ some (attacks file (ownAttacks c))
+  unfolding attackCertificate ownAttacks attackLength
+  attack-tables = attacks-shape file (omega (arith, within .short)) (ownAttacks c) (omega (arith, length-attacks (rank (circuitGame c)) (attack (circuitGame c)) (latchCount c), few))
+
+-- what is written passes
+pub written-passes : (file : List ℕ) (c : Circuit) → circuitIn file ≡ taken c → checkOf file (certificateOf file c) ≡ taken (ownTables file c)
+unfolding ownTables circuitPart
+written-passes file c reads = by (isRealizable c) refl
+  where
+    within : Within file c
+    within = read-within file c reads
+
+    by : (b : Bool) → isRealizable c ≡ b → checkOf file (certificateOf file c) ≡ taken (cond (isRealizable c) (replies file (ownRegion c) replyKind (ownReplies c)) (attacks file (ownAttacks c)))
+    by true e = rw (replies-of file c e, e) (passes-of file (replyCertificate file c) c (replies file (ownRegion c) replyKind (ownReplies c)) reads (reply-tables file c within) refl (replies-pass c e))
+    by false e = rw (attacks-of file c e, e) (passes-of file (attackCertificate file c) c (attacks file (ownAttacks c)) reads (attack-tables file c within) refl (attacks-pass c (within .fewLatches) e))
