@@ -3,6 +3,8 @@ pub mod Turns
 pub mod Tables
 pub mod Length
 pub mod Certified
+pub mod Bounds
+pub mod InParts
 pub mod Within
 pub mod RulesKept
 pub mod Passes

@@ -1,76 +1,70 @@
+-- `writer::certify_replies` writes heads and tables one behind the other where the buffer has room for all, and refuses else. Assumes
+-- nothing.
+use Prim.Native.Nat.{_+_, _*_, _/_, _^_, _<_}
+use native.Mathlib.Omega.{arith}
+use lib.ListN.{length}
+use Rattle.bits.proofs.laws.Wrote.{wrote-put}
+use Rattle.circuit.specs.Stored.{lent}
+use Rattle.records.specs.Record.{circuitKind, regionKind, replyKind}
+use Rattle.solver.specs.Over.{rankZero}
+use Rattle.writer.specs.Rows.{regionByte}
+use Rattle.writer.proofs.laws.Bounds.{few-replies, solved-small, head-place, table-place}
+use Rattle.writer.proofs.laws.InParts.{no-reply-room, replies-in-parts}
 use borrow.Author.Needs.{needs}
 use Rattle.writer.proofs.certify_replies.Statement.{statement}
 use Rattle.writer.proofs.certify_replies.Tie as tie
-use Rattle.writer.proofs.certify_replies.Reads as reads
-use Rattle.writer.proofs.certify_replies.Lts as lts
-use Rattle.put.proofs.put_bytes.Reads as put-bytes-reads
-use Rattle.writer.proofs.tables.put_head.Reads as put-head-reads
-use Rattle.writer.proofs.tables.put_region.Reads as put-region-reads
-use Rattle.writer.proofs.tables.put_replies.Reads as put-replies-reads
 
--- src/lib.rt:198:19
+-- a slice has fewer than 2^63 bytes
+room : (s : tie.Start) → length (s .args .out .now) < 2 ^ 63
+room s = omega arith
+
 add-region : tie.Need-add-region
-add-region c = ?
+add-region c = let a = c .before .before .before .before .before .before .before .before .before .before .args in let small = solved-small (c .before .before .before .before .before .before .before .before .before .before .pre .0) in omega (arith, small .fewStates)
 
--- src/lib.rt:199:19
 mul-replies : tie.Need-mul-replies
-mul-replies c = ?
+mul-replies c = let a = c .before .before .before .before .before .before .before .before .before .before .args in let small = solved-small (c .before .before .before .before .before .before .before .before .before .before .pre .0) in omega (arith, few-replies (a .states) (a .readings) (small .fewStates) (small .fewReadings))
 
--- src/lib.rt:200:20
 mul-if1 : tie.Need-mul-if1
 mul-if1 c = search needs
 
--- src/lib.rt:200:20
 add-if1 : tie.Need-add-if1
 add-if1 c = search needs
 
--- src/lib.rt:200:20
 add-if1-2 : tie.Need-add-if1-2
 add-if1-2 c = search needs
 
--- src/lib.rt:200:20
 add-if1-3 : tie.Need-add-if1-3
-add-if1-3 c = ?
+add-if1-3 c = let a = c .before .before .before .before .before .before .before .before .before .before .args in let small = solved-small (c .before .before .before .before .before .before .before .before .before .before .pre .0) in omega (arith, few-replies (a .states) (a .readings) (small .fewStates) (small .fewReadings), small .fewStates)
 
--- src/lib.rt:201:9
 returns : tie.Need-returns
-returns c = ?
+returns c = let a = c .before .before .before .before .before .before .before .before .before .before .before .args in no-reply-room (a .file .now) (lent 0 (a .input .now) (a .controllable .now) (a .latch .now) (a .next .now) (a .output) (a .gate .now) (a .left .now) (a .right .now)) (a .states) (a .readings) (a .controls) (a .ranks .now) (c .before .before .before .before .before .before .before .before .before .before .before .pre .0) (a .out .now) (c .before .before .before .before .before .before .before .before .before .before .before .pre .1) (c .if1 .taken)
 
--- src/lib.rt:206:9
 put-head-requires : tie.Need-put-head-requires
 put-head-requires c κs = search needs
 
--- src/lib.rt:207:27
 put-bytes-requires : tie.Need-put-bytes-requires
 put-bytes-requires c κs = search needs
 
--- src/lib.rt:207:19
 add-circuit : tie.Need-add-circuit
-add-circuit c = ?
+add-circuit c = let a = c .before .before .before .before .before .before .before .before .before .before .before .before .before .before .before .before .before .before .before .args in omega (arith, room (c .before .before .before .before .before .before .before .before .before .before .before .before .before .before .before .before .before .before .before), c .before .before .before .before .before .before .before .before .if1 .left, head-place (length (a .file .now)) circuitKind (c .before .before .before .before .before .before .put-head .ensures), c .before .before .put-bytes .ensures .0)
 
--- src/lib.rt:208:9
 put-head-requires-2 : tie.Need-put-head-requires-2
-put-head-requires-2 c κs = ?
+put-head-requires-2 c κs = let a = c .before .before .before .before .before .before .before .before .before .before .before .before .before .before .before .before .before .before .before .before .args in omega (arith, room (c .before .before .before .before .before .before .before .before .before .before .before .before .before .before .before .before .before .before .before .before), c .before .before .before .before .before .before .before .before .before .if1 .left, head-place (length (a .file .now)) circuitKind (c .before .before .before .before .before .before .before .put-head .ensures), c .before .before .before .put-bytes .ensures .0)
 
--- src/lib.rt:209:9
 put-region-requires : tie.Need-put-region-requires
-put-region-requires c κs = ?
+put-region-requires c κs = let a = c .before .before .before .before .before .before .before .before .before .before .before .before .before .before .before .before .before .before .before .before .before .before .before .before .args in let small = solved-small (c .before .before .before .before .before .before .before .before .before .before .before .before .before .before .before .before .before .before .before .before .before .before .before .before .pre .0) in (omega (arith, room (c .before .before .before .before .before .before .before .before .before .before .before .before .before .before .before .before .before .before .before .before .before .before .before .before), c .before .before .before .before .before .before .before .before .before .before .before .before .before .if1 .left, head-place (length (a .file .now)) circuitKind (c .before .before .before .before .before .before .before .before .before .before .before .put-head .ensures), c .before .before .before .before .before .before .before .put-bytes .ensures .0, head-place ((a .states + 7) / 8) regionKind (c .before .before .before .put-head2 .ensures)), small .fewStates)
 
--- src/lib.rt:210:9
 put-head-requires-3 : tie.Need-put-head-requires-3
-put-head-requires-3 c κs = ?
+put-head-requires-3 c κs = let a = c .before .before .before .before .before .before .before .before .before .before .before .before .before .before .before .before .before .before .before .before .before .before .before .before .before .before .before .before .args in omega (arith, room (c .before .before .before .before .before .before .before .before .before .before .before .before .before .before .before .before .before .before .before .before .before .before .before .before .before .before .before .before), c .before .before .before .before .before .before .before .before .before .before .before .before .before .before .before .before .before .if1 .left, head-place (length (a .file .now)) circuitKind (c .before .before .before .before .before .before .before .before .before .before .before .before .before .before .before .put-head .ensures), c .before .before .before .before .before .before .before .before .before .before .before .put-bytes .ensures .0, head-place ((a .states + 7) / 8) regionKind (c .before .before .before .before .before .before .before .put-head2 .ensures), table-place (regionByte (rankZero (a .ranks .now)) (a .states)) ((a .states + 7) / 8) (c .before .before .before .put-region .ensures))
 
--- src/lib.rt:211:9
 put-replies-requires : tie.Need-put-replies-requires
-put-replies-requires c κs = ?
+put-replies-requires c κs = let a = c .before .before .before .before .before .before .before .before .before .before .before .before .before .before .before .before .before .before .before .before .before .before .before .before .before .before .before .before .before .before .before .before .args in let small = solved-small (c .before .before .before .before .before .before .before .before .before .before .before .before .before .before .before .before .before .before .before .before .before .before .before .before .before .before .before .before .before .before .before .before .pre .0) in (omega (arith, room (c .before .before .before .before .before .before .before .before .before .before .before .before .before .before .before .before .before .before .before .before .before .before .before .before .before .before .before .before .before .before .before .before), c .before .before .before .before .before .before .before .before .before .before .before .before .before .before .before .before .before .before .before .before .before .if1 .left, head-place (length (a .file .now)) circuitKind (c .before .before .before .before .before .before .before .before .before .before .before .before .before .before .before .before .before .before .before .put-head .ensures), c .before .before .before .before .before .before .before .before .before .before .before .before .before .before .before .put-bytes .ensures .0, head-place ((a .states + 7) / 8) regionKind (c .before .before .before .before .before .before .before .before .before .before .before .put-head2 .ensures), table-place (regionByte (rankZero (a .ranks .now)) (a .states)) ((a .states + 7) / 8) (c .before .before .before .before .before .before .before .put-region .ensures), head-place (a .states * a .readings) replyKind (c .before .before .before .put-head3 .ensures)), (small .fewStates, (small .someReading, small .fewReadings)))
 
--- src/lib.rt:178:1
 same-length : tie.Need-same-length
 same-length c = search needs
 
--- src/lib.rt:178:1
 returns-2 : tie.Need-returns-2
-returns-2 c = ?
+returns-2 c = let a = c .before .before .before .before .before .before .before .before .before .before .before .before .before .before .before .before .before .before .before .before .before .before .before .before .before .before .before .before .before .before .before .before .before .before .before .args in replies-in-parts (a .file .now) (lent 0 (a .input .now) (a .controllable .now) (a .latch .now) (a .next .now) (a .output) (a .gate .now) (a .left .now) (a .right .now)) (a .states) (a .readings) (a .controls) (a .ranks .now) (c .before .before .before .before .before .before .before .before .before .before .before .before .before .before .before .before .before .before .before .before .before .before .before .before .before .before .before .before .before .before .before .before .before .before .before .pre .0) (c .before .before .before .before .before .before .before .before .before .before .before .before .before .before .before .before .before .before .before .before .before .before .before .before .before .before .before .before .before .before .before .before .before .before .before .pre .1) (c .before .before .before .before .before .before .before .before .before .before .before .before .before .before .before .before .before .before .before .before .before .before .before .before .if1 .left) (c .before .before .before .before .before .before .before .before .before .before .before .before .before .before .before .before .before .before .before .before .before .before .put-head .ensures) (wrote-put (omega (arith, c .before .before .before .before .before .before .before .before .before .before .before .before .before .before .before .before .before .before .put-bytes .ensures .0)) (c .before .before .before .before .before .before .before .before .before .before .before .before .before .before .before .before .before .before .put-bytes .ensures .1)) (c .before .before .before .before .before .before .before .before .before .before .before .before .before .before .put-head2 .ensures) (c .before .before .before .before .before .before .before .before .before .before .put-region .ensures) (c .before .before .before .before .before .before .put-head3 .ensures) (c .before .before .put-replies .ensures)
 
 pub certify-replies-spec : {M : Type 1} → statement M
 certify-replies-spec =

@@ -1,10 +1,12 @@
 -- `writer::tables::put_replies` writes the replies: each turn one more byte behind those before it. Assumes nothing.
-use Prim.Native.Nat.{ℕ, _*_, _-_, _/_, _%_}
+use Prim.Native.Nat.{_*_, _-_, _/_, _%_}
+use native.Mathlib.Nat.{div-lt-iff-lt-mul, mod-lt}
 use native.Mathlib.Omega.{arith}
 use mathlib.Core.List.{[], _∷_}
 use Rattle.circuit.specs.Stored.{lent}
 use Rattle.moves.specs.Played.{played}
 use Rattle.solver.specs.Over.{replyOver}
+use Rattle.writer.proofs.laws.Bounds.{few-replies}
 use Rattle.writer.proofs.laws.Turns.{Turns, turns-start, cells-more, cells-end}
 use borrow.Author.Needs.{needs}
 use Rattle.writer.proofs.tables.put_replies.Statement.{statement}
@@ -19,7 +21,7 @@ abbrev μ-loop : tie.MeasureT-loop
     n - i
 
 mul-n : tie.Need-mul-n Inv-loop μ-loop
-mul-n c = search needs
+mul-n c = let a = c .before .before .before .before .before .before .before .before .before .args in omega (arith, few-replies (a .states) (a .readings) (c .before .before .before .before .before .before .before .before .before .pre .1 .0) (c .before .before .before .before .before .before .before .before .before .pre .1 .1 .1))
 
 loop-holds : tie.Need-loop-holds Inv-loop μ-loop
 loop-holds c = let a = c .before .before .before .before .before .before .before .before .before .args in turns-start (λ k. replyOver (played 0 (a .controls) (lent 0 (a .input .now) (a .controllable .now) (a .latch .now) (a .next .now) (a .output) (a .gate .now) (a .left .now) (a .right .now))) (a .ranks .now) (k / a .readings) (k % a .readings) ∷ []) 1 (a .states * a .readings) (a .at)
@@ -31,10 +33,10 @@ rem-reading : tie.Need-rem-reading Inv-loop μ-loop
 rem-reading c = search needs
 
 cast-reply-lent : tie.Need-cast-reply-lent Inv-loop μ-loop
-cast-reply-lent c = search needs
+cast-reply-lent c = let a = c .before .before .before .before .before .before .before .before .before .before .before .args in omega (arith, div-lt-iff-lt-mul {k = a .readings} {x = c .before .loop .i} {y = a .states} (c .before .before .before .before .before .before .before .before .before .before .before .pre .1 .1 .0) .1 (c .loop-test .taken), c .before .before .before .before .before .before .before .before .before .before .before .pre .1 .0)
 
 cast-reply-lent-2 : tie.Need-cast-reply-lent-2 Inv-loop μ-loop
-cast-reply-lent-2 c = search needs
+cast-reply-lent-2 c = let a = c .before .before .before .before .before .before .before .before .before .before .before .args in omega (arith, mod-lt (c .before .loop .i) {m = a .readings} (c .before .before .before .before .before .before .before .before .before .before .before .pre .1 .1 .0), c .before .before .before .before .before .before .before .before .before .before .before .pre .1 .1 .1)
 
 reply-lent-requires : tie.Need-reply-lent-requires Inv-loop μ-loop
 reply-lent-requires c κs = search needs
@@ -46,10 +48,10 @@ put-bytes-requires : tie.Need-put-bytes-requires Inv-loop μ-loop
 put-bytes-requires c κs = search needs
 
 add-behind : tie.Need-add-behind Inv-loop μ-loop
-add-behind c = ?
+add-behind c = let a = c .before .before .before .before .before .before .before .before .before .before .before .before .before .before .before .before .before .args in omega (arith, c .before .before .before .before .before .before .before .loop .inv .place, c .before .before .before .before .before .before .before .loop .inv .within, c .before .before .put-bytes .ensures .0, c .before .before .before .before .before .before .before .before .before .before .before .before .before .before .before .before .before .pre .0, few-replies (a .states) (a .readings) (c .before .before .before .before .before .before .before .before .before .before .before .before .before .before .before .before .before .pre .1 .0) (c .before .before .before .before .before .before .before .before .before .before .before .before .before .before .before .before .before .pre .1 .1 .1))
 
 add-i : tie.Need-add-i Inv-loop μ-loop
-add-i c = search needs
+add-i c = let a = c .before .before .before .before .before .before .before .before .before .before .before .before .before .before .before .before .before .args in omega (arith, c .before .before .before .before .before .before .before .loop .inv .within, few-replies (a .states) (a .readings) (c .before .before .before .before .before .before .before .before .before .before .before .before .before .before .before .before .before .pre .1 .0) (c .before .before .before .before .before .before .before .before .before .before .before .before .before .before .before .before .before .pre .1 .1 .1))
 
 loop-less : tie.Need-loop-less Inv-loop μ-loop
 loop-less c = omega arith
