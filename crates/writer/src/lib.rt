@@ -13,10 +13,11 @@ use tables::put_attacks;
 use tables::put_head;
 use tables::put_region;
 use tables::put_replies;
-ghost use Prim.Native.Nat.{_^_};
-ghost use lib.ListN.{length, take};
+ghost use Prim.Native.Nat.{_^_, _≤_};
+ghost use lib.ListN.{take};
 ghost use mathlib.Core.Bool.{true, false};
 ghost use mathlib.Core.Path.{_≡_};
+ghost use Rattle.circuit.specs.Limits.{base};
 ghost use Rattle.circuit.specs.Outcome.{taken};
 ghost use Rattle.circuit.specs.Stored.{lent, meant, solvable};
 ghost use Rattle.game.specs.CircuitGame.{isRealizable};
@@ -133,9 +134,9 @@ fn certify_lent<'a>(
     requires { ⌜ Counted (lent 0 (now input) (now controllable) (now latch) (now next) output (now gate) (now left) (now right)) latches uncontrollables controllables ⌝ }
     ensures { λ r. ⌜ CertifiedAs (now (file .entry)) (taken (lent 0 (now (input .entry)) (now (controllable .entry)) (now (latch .entry)) (now (next .entry)) output (now (gate .entry)) (now (left .entry)) (now (right .entry)))) (now (out .entry)) (now (out .exit)) r ⌝ }
 {
-    let states = 1usize << latches;
-    let readings = 1usize << uncontrollables;
-    let controls = 1usize << controllables;
+    let states = numbers(latches);
+    let readings = numbers(uncontrollables);
+    let controls = numbers(controllables);
     let ranks = solver::ranks_lent(input, controllable, latch, next, output, gate, left, right);
     if ranks[0] == 0 {
         certify_replies(
@@ -172,6 +173,14 @@ fn certify_lent<'a>(
             out,
         )
     }
+}
+
+// How many numbers n bits make.
+fn numbers(n: usize) -> usize
+    requires { ⌜ n ≤ base .latches ⌝ }
+    ensures { λ r. ⌜ r ≡ 2 ^ n ⌝ }
+{
+    1 << n
 }
 
 // Kinds 1, 2 and 3.
