@@ -15,7 +15,7 @@ same-length c = search needs
 
 returns : tie.Need-returns
 unfolding meant
-returns c = 
+returns c =
     let v = c .before .before .before .before .before .before .before .before .before .before .before .before .before .before .before .before .before .before .before .before .before .args .t1 in
     certified-any-largest 0 (v .largest) (take (v .inputs) (v .input)) (v .controllable) (take (v .latches) (v .latch)) (v .next) (v .output) (take (v .gates) (v .gate)) (v .left) (v .right)
     (c .before .before .certify-counted .ensures)

@@ -55,7 +55,7 @@ same-length : tie.Need-same-length
 same-length c = search needs
 
 returns : tie.Need-returns
-returns c = 
+returns c =
     let a = c .before .before .before .before .before .before .before .before .before .before .before .before .before .before .before .before .before .before .before .before .before .before .before .before .before .args in
     let i = c .before .before .before .before .before .before .before .before .before .before .before .before .before .before .before .fewer in
     let l = c .before .before .before .before .before .before .before .before .before .before .before .before .before .before .fewer2 in
@@ -82,7 +82,7 @@ slice-aggregate-certify-lent-6 : tie.Need-slice-aggregate-certify-lent-6
 slice-aggregate-certify-lent-6 c = simp length-take (omega arith)
 
 certify-lent-requires-2 : tie.Need-certify-lent-requires-2
-certify-lent-requires-2 c κs = 
+certify-lent-requires-2 c κs =
     let a = c .before .before .before .before .before .before .before .before .before .before .before .before .before .before .before .before .before .before .before .before .before .before .before .args in
     let i = c .before .before .before .before .before .before .before .before .before .before .before .before .before .fewer in
     let l = c .before .before .before .before .before .before .before .before .before .before .before .before .fewer2 in
@@ -98,7 +98,7 @@ same-length-2 : tie.Need-same-length-2
 same-length-2 c = search needs
 
 returns-2 : tie.Need-returns-2
-returns-2 c = 
+returns-2 c =
     let a = c .before .before .before .before .before .before .before .before .before .before .before .before .before .before .before .before .before .before .before .before .before .before .before .before .before .before .args in
     let i = c .before .before .before .before .before .before .before .before .before .before .before .before .before .before .before .before .fewer in
     let l = c .before .before .before .before .before .before .before .before .before .before .before .before .before .before .before .fewer2 in
