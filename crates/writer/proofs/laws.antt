@@ -10,3 +10,5 @@ pub mod AnyLargest
 pub mod Within
 pub mod RulesKept
 pub mod Passes
+pub mod Decided
+pub mod Longest

@@ -1,20 +1,24 @@
 -- What is written passes (the mission's rule 3): the certificate of a circuit that was read from a file passes the check against that
 -- file, and the check takes its tables. Assumes nothing.
 use Prim.Native.Nat.{ℕ, _+_, _*_, _/_, _^_, _<_, _≤_}
+use native.Mathlib.Decide.{decLe}
 use native.Mathlib.Omega.{arith}
 use mathlib.Core.Bool.{Bool, true, false, cond, not}
-use mathlib.Core.List.{List}
+use mathlib.Core.List.{List, _++_}
 use mathlib.Core.Option.{some}
 use mathlib.Core.Path.{_≡_, refl, sym, ap, _∙_}
 use lib.Dec.{ltb}
-use lib.ListN.{length}
+use lib.ListN.{length, take, drop}
+use lib.Seq.{take-at}
 use lib.Pow.{pow-mono}
 use Rattle.bits.specs.Bytes.{sameBytes}
 use Rattle.bits.proofs.laws.SameBytes.{equal-same-bytes}
+use Rattle.circuit.specs.Answer.{noRoom, bufferAfter}
 use Rattle.circuit.specs.Circuit.{Circuit, latchCount, uncontrollableCount}
 use Rattle.circuit.specs.Limits.{base}
 use Rattle.circuit.specs.Outcome.{Outcome, taken, _>>=_, _>>_, refuseIf}
-use Rattle.circuit.proofs.laws.Outcome.{test-passes}
+use Rattle.circuit.proofs.laws.Answer.{fitted-taken, fitted-refused}
+use Rattle.circuit.proofs.laws.Outcome.{refused-is-not-taken, test-passes}
 use Rattle.file.specs.CircuitIn.{circuitIn}
 use Rattle.game.specs.Attack.{attack}
 use Rattle.game.specs.CircuitGame.{circuitGame, isRealizable}
@@ -31,6 +35,8 @@ use Rattle.checker.specs.Check.{acceptedKinds, orBadShape, tablesChecked, check
 use Rattle.checker.specs.Numbers.{otherCircuit, badTable, badReset, brokenStep}
 use Rattle.checker.specs.Rules.{badReplyTables, badAttackTable, resetOutside, resetUnranked, brokenReply, brokenAttack}
 use Rattle.checker.proofs.laws.Pass.{TablesPass}
+use Rattle.writer.specs.declared.Certified.{Certified}
+use Rattle.writer.specs.Answer.{Verdict, certifiedOutcome, certificateFor, verdictFor, CertifiedAs}
 use Rattle.writer.specs.Certificate.{replyCertificate, attackCertificate, certificateOf}
 use Rattle.writer.proofs.laws.Certified.{replies-of, attacks-of}
 use Rattle.writer.proofs.laws.RulesKept.{ownRegion, ownReplies, ownAttacks, replies-pass, attacks-pass}
@@ -86,3 +92,23 @@ written-passes file c reads = by (isRealizable c) refl
     by : (b : Bool) → isRealizable c ≡ b → checkOf file (certificateOf file c) ≡ taken (cond (isRealizable c) (replies file (ownRegion c) replyKind (ownReplies c)) (attacks file (ownAttacks c)))
     by true e = rw (replies-of file c e, e) (passes-of file (replyCertificate file c) c (replies file (ownRegion c) replyKind (ownReplies c)) reads (reply-tables file c within) refl (replies-pass c e))
     by false e = rw (attacks-of file c e, e) (passes-of file (attackCertificate file c) c (attacks file (ownAttacks c)) reads (attack-tables file c within) refl (attacks-pass c (within .fewLatches) e))
+
+-- and so does what a writer leaves at the front of its buffer, with the verdict that it tells
+pub buffer-passes : (file : List ℕ) (c : Circuit) (before after : List ℕ) (r : Certified) (v : Verdict) → circuitIn file ≡ taken c → CertifiedAs file (taken c) before after r → certifiedOutcome r ≡ taken v → (v .realizable ≡ isRealizable c) × (checkOf file (take (v .count) after) ≡ taken (ownTables file c))
+unfolding certificateFor verdictFor bufferAfter
+buffer-passes file c before after r v reads w told = elim (decLe (length certificate) (length before)) [ yes h ↦ fits h | no h ↦ absurd (refused-is-not-taken noRoom 0 v (sym (ap verdict (fitted-refused certificate (length before) (omega arith))) ∙ sym (w .answer) ∙ told)) ]
+  where
+    certificate : List ℕ
+    certificate = certificateOf file c
+
+    verdict : Outcome (List ℕ) → Outcome Verdict
+    verdict o = o >>= λ bytes. taken (record { realizable = isRealizable c; count = length bytes })
+
+    fits : length certificate ≤ length before → (v .realizable ≡ isRealizable c) × (checkOf file (take (v .count) after) ≡ taken (ownTables file c))
+    fits h =
+        let says : taken v ≡ verdict (taken certificate) = sym told ∙ w .answer ∙ ap verdict (fitted-taken certificate (length before) h) in
+        let is : v ≡ record { realizable = isRealizable c; count = length certificate } = cc in
+        let stands : after ≡ certificate ++ drop (length certificate) before = w .bytes ∙ ap (λ (o : Outcome (List ℕ)). bufferAfter o before) (fitted-taken certificate (length before) h) in (
+          (λ x. is x .realizable),
+          ap (checkOf file) ((λ x. take (is x .count) (stands x)) ∙ take-at certificate (drop (length certificate) before) (length certificate) refl) ∙ written-passes file c reads,
+        )
