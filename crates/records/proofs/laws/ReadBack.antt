@@ -1,17 +1,16 @@
 -- What the tables of a certificate store is read back as it was: the region, the replies, the ranks and the attacks. Assumes nothing.
 use Prim.Native.Nat.{ℕ, _+_, _*_, _/_, _%_, _^_, _<_, _≤_}
 use native.Mathlib.Decide.{decLt}
-use native.Mathlib.Nat.{mod-eq-of-lt, mod-lt}
+use native.Mathlib.Nat.{mod-eq-of-lt}
 use native.Mathlib.Omega.{arith}
-use mathlib.Core.Bool.{Bool, true, false, cond, _&&_}
+use mathlib.Core.Bool.{Bool, true, false, _&&_}
 use mathlib.Core.List.{List, [], _∷_, _++_}
 use mathlib.Core.Path.{_≡_, refl, sym, ap, ap₂, _∙_, subst}
 use lib.Arith.{digits-lt, digits-div, digits-mod}
 use lib.Dec.{eqb, leb, ltb}
 use lib.ListN.{length, getD}
 use lib.Pow.{pow-add}
-use borrow.Author.Tests.{lt-ltb, le-ltb, lt-leb, ltb-true}
-use Rattle.below.specs.Least.{any}
+use borrow.Author.Tests.{lt-ltb, le-ltb, lt-leb}
 use Rattle.below.specs.Table.{table}
 use Rattle.below.proofs.laws.Least.{none-any}
 use Rattle.below.proofs.laws.Table.{length-table, getD-table}

@@ -2,12 +2,12 @@
 use Prim.Native.Nat.{ℕ, _^_, _<_}
 use native.Mathlib.Omega.{arith}
 use mathlib.Core.List.{List, [], _∷_, _++_, append-nil, append-assoc}
-use mathlib.Core.Option.{Option, none, some}
-use mathlib.Core.Path.{_≡_, refl, sym, ap, _∙_}
+use mathlib.Core.Option.{some}
+use mathlib.Core.Path.{_≡_, sym, ap, _∙_}
 use lib.ListN.{length}
 use Rattle.below.specs.Among.{among, member}
-use Rattle.records.specs.Record.{Split, whole, split, recordOf, circuitKind, regionKind, replyKind, attackKind}
-use Rattle.records.specs.Tables.{Tables, replies, attacks, tablesOf, firstOf, secondOf, thirdOf}
+use Rattle.records.specs.Record.{whole, split, recordOf, circuitKind, regionKind, replyKind, attackKind}
+use Rattle.records.specs.Tables.{replies, attacks, tablesOf, firstOf, secondOf, thirdOf}
 use Rattle.records.proofs.laws.Record.{split-record}
 
 -- the last record, with nothing behind it

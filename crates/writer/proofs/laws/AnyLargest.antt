@@ -2,13 +2,13 @@
 use Prim.Native.Nat.{ℕ}
 use mathlib.Core.Bool.{Bool, true, false, cond}
 use mathlib.Core.List.{List, _++_}
-use mathlib.Core.Path.{_≡_, refl, sym, ap, ap₂, _∙_}
+use mathlib.Core.Path.{_≡_, refl, sym, ap, _∙_}
 use lib.Dec.{eqb}
 use lib.ListN.{length}
 use Rattle.circuit.specs.Answer.{fitted, bufferAfter}
 use Rattle.circuit.specs.Circuit.{Circuit, latchCount, uncontrollableCount, controllableCount, tooMany}
 use Rattle.circuit.specs.Limits.{base}
-use Rattle.circuit.specs.Outcome.{Outcome, taken, _>>=_}
+use Rattle.circuit.specs.Outcome.{taken, _>>=_}
 use Rattle.circuit.specs.Reset.{isReset}
 use Rattle.circuit.specs.Stored.{lent, emptyCircuit, solvable}
 use Rattle.game.specs.Attack.{attack}
@@ -23,7 +23,7 @@ use Rattle.records.specs.RegionBits.{regionBytes}
 use Rattle.records.specs.ReplyBytes.{replyBytes}
 use Rattle.solver.proofs.laws.Solved.{any-largest}
 use Rattle.writer.specs.declared.Certified.{Certified}
-use Rattle.writer.specs.Answer.{Verdict, certificateFor, verdictFor, CertifiedAs}
+use Rattle.writer.specs.Answer.{certificateFor, verdictFor, CertifiedAs}
 use Rattle.writer.specs.Certificate.{replyCertificate, attackCertificate, certificateOf}
 
 -- what a certificate looks at: the game, L and U

@@ -3,8 +3,8 @@ use Prim.Native.Nat.{ℕ, _+_, _*_, _^_, _<_, _≤_}
 use native.Mathlib.Nat.{mul-le-mul}
 use native.Mathlib.Omega.{arith}
 use mathlib.Core.List.{List, _++_}
-use mathlib.Core.Path.{_≡_, _∙_, ap}
-use lib.ListN.{length, length-append}
+use mathlib.Core.Path.{_≡_}
+use lib.ListN.{length-append}
 use lib.Pow.{pow-mono, pow-pos}
 use Rattle.below.specs.Table.{table}
 use Rattle.below.proofs.laws.Table.{length-table}

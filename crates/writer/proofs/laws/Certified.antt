@@ -2,16 +2,16 @@
 -- it was. Assumes nothing.
 use Prim.Native.Nat.{ℕ, _<_, _≤_}
 use native.Mathlib.Omega.{arith}
-use mathlib.Core.Bool.{Bool, true, false, cond}
+use mathlib.Core.Bool.{true, false}
 use mathlib.Core.List.{List, _++_}
-use mathlib.Core.Path.{_≡_, refl, sym, ap, ap₂, _∙_, subst}
+use mathlib.Core.Path.{_≡_, ap, _∙_, subst}
 use lib.ListN.{length}
 use Rattle.bits.specs.Digits.{digits}
 use Rattle.bits.specs.Wrote.{Wrote}
 use Rattle.bits.proofs.laws.Wrote.{sets-front, wrote-both}
-use Rattle.circuit.specs.Answer.{fitted, bufferAfter, noRoom}
+use Rattle.circuit.specs.Answer.{bufferAfter, noRoom}
 use Rattle.circuit.specs.Circuit.{Circuit, latchCount, uncontrollableCount}
-use Rattle.circuit.specs.Outcome.{Outcome, taken, refused}
+use Rattle.circuit.specs.Outcome.{Outcome, taken}
 use Rattle.circuit.proofs.laws.Answer.{fitted-taken, fitted-refused}
 use Rattle.game.specs.Attack.{attack}
 use Rattle.game.specs.CircuitGame.{circuitGame, isRealizable}

@@ -5,7 +5,7 @@ use mathlib.Core.Bool.{true≢false}
 use mathlib.Core.List.{List}
 use mathlib.Core.Path.{_≡_, refl, sym, _∙_}
 use Rattle.circuit.specs.Circuit.{Circuit}
-use Rattle.circuit.specs.Outcome.{Outcome, taken, refused}
+use Rattle.circuit.specs.Outcome.{Outcome, taken}
 use Rattle.file.specs.CircuitIn.{circuitIn}
 use Rattle.writer.specs.declared.Certified.{Certified}
 use Rattle.writer.specs.declared.Certified.the-variants.{Realizable, Unrealizable, Refused}

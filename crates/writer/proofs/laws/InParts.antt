@@ -25,7 +25,7 @@ use Rattle.records.specs.ReplyBytes.{replyLength}
 use Rattle.records.proofs.laws.Lengths.{length-region, length-replies, length-attacks}
 use Rattle.solver.specs.Over.{rankZero, replyOver, attackOver}
 use Rattle.writer.specs.Answer.{CertifiedAs}
-use Rattle.writer.specs.Certificate.{replyCertificate, attackCertificate, certificateOf}
+use Rattle.writer.specs.Certificate.{replyCertificate, attackCertificate}
 use Rattle.writer.specs.Rows.{regionByte, attackRow}
 use Rattle.writer.specs.Solved.{Solved}
 use Rattle.writer.specs.declared.Certified.the-variants.{Realizable, Unrealizable, Refused}

@@ -3,7 +3,7 @@ use Prim.Native.Nat.{ℕ, _+_, _*_, _/_, _^_, _≤_}
 use native.Mathlib.Omega.{arith}
 use mathlib.Core.Bool.{Bool, true, false, cond}
 use mathlib.Core.List.{List}
-use mathlib.Core.Path.{_≡_, ap, _∙_, subst, sym}
+use mathlib.Core.Path.{_≡_, subst, sym}
 use lib.ListN.{length}
 use lib.Pow.{pow-mono}
 use Rattle.circuit.specs.Circuit.{Circuit, latchCount, uncontrollableCount}

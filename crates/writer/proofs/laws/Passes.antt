@@ -1,6 +1,6 @@
 -- What is written passes (the mission's rule 3): the certificate of a circuit that was read from a file passes the check against that
 -- file, and the check takes its tables. Assumes nothing.
-use Prim.Native.Nat.{ℕ, _+_, _*_, _/_, _^_, _<_, _≤_}
+use Prim.Native.Nat.{ℕ, _+_, _*_, _^_, _≤_}
 use native.Mathlib.Decide.{decLe}
 use native.Mathlib.Omega.{arith}
 use mathlib.Core.Bool.{Bool, true, false, cond, not}
@@ -16,7 +16,7 @@ use Rattle.bits.proofs.laws.SameBytes.{equal-same-bytes}
 use Rattle.circuit.specs.Answer.{noRoom, bufferAfter}
 use Rattle.circuit.specs.Circuit.{Circuit, latchCount, uncontrollableCount}
 use Rattle.circuit.specs.Limits.{base}
-use Rattle.circuit.specs.Outcome.{Outcome, taken, _>>=_, _>>_, refuseIf}
+use Rattle.circuit.specs.Outcome.{Outcome, taken, _>>=_}
 use Rattle.circuit.proofs.laws.Answer.{fitted-taken, fitted-refused}
 use Rattle.circuit.proofs.laws.Outcome.{refused-is-not-taken, test-passes}
 use Rattle.file.specs.CircuitIn.{circuitIn}

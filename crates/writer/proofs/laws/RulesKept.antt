@@ -1,6 +1,6 @@
 -- The tables of our own certificates break no rule of the check: sizes, reset and steps, of replies where the circuit is realizable, of
 -- attacks where it isn't (01, "The numbers", 13 to 15). Assumes nothing.
-use Prim.Native.Nat.{ℕ, _+_, _*_, _-_, _/_, _%_, _^_, _<_, _≤_}
+use Prim.Native.Nat.{ℕ, _*_, _-_, _/_, _%_, _<_, _≤_}
 use native.Mathlib.Decide.{decLt}
 use native.Mathlib.Nat.{div-lt-iff-lt-mul, mod-lt}
 use native.Mathlib.Omega.{arith}
@@ -8,10 +8,8 @@ use mathlib.Core.Bool.{Bool, true, false, not, _&&_, _||_}
 use mathlib.Core.List.{List}
 use mathlib.Core.Path.{_≡_, refl, sym, ap, ap₂, _∙_, subst}
 use lib.Dec.{eqb, ltb}
-use lib.ListN.{length}
 use lib.Pow.{pow-pos, pow-mono}
 use borrow.Author.Tests.{lt-ltb, le-ltb, eq-eqb, ne-eqb}
-use Rattle.below.specs.Least.{least}
 use Rattle.below.proofs.laws.Least.{least-none, none-any, every-same}
 use Rattle.circuit.specs.Circuit.{Circuit, latchCount, uncontrollableCount}
 use Rattle.circuit.specs.Limits.{base}
@@ -20,7 +18,7 @@ use Rattle.game.specs.Attack.{attack, attackBroken}
 use Rattle.game.specs.CircuitGame.{circuitGame, isRealizable}
 use Rattle.game.specs.Game.{Game}
 use Rattle.game.specs.Keeps.{Keeps}
-use Rattle.game.specs.Rank.{rank, inRegion, notRanked, defeats}
+use Rattle.game.specs.Rank.{rank, inRegion, defeats}
 use Rattle.game.specs.Reply.{reply, replyBroken}
 use Rattle.game.specs.Verdict.{realizable}
 use Rattle.game.proofs.laws.Attack.{attacks-unbroken}
@@ -29,8 +27,8 @@ use Rattle.game.proofs.laws.Rank.{rank-at-most}
 use Rattle.game.proofs.laws.Reply.{reply-unbroken, reply-is-control, reply-keeps}
 use Rattle.game.proofs.laws.Verdict.{reset-in-region}
 use Rattle.records.specs.AttackTable.{attackBytes, storedRank, storedAttack}
-use Rattle.records.specs.RegionBits.{regionBytes, regionLength, holdsState, unusedBitSet}
-use Rattle.records.specs.ReplyBytes.{replyBytes, replyLength, storedReply}
+use Rattle.records.specs.RegionBits.{regionBytes, holdsState}
+use Rattle.records.specs.ReplyBytes.{replyBytes, storedReply}
 use Rattle.records.proofs.laws.Lengths.{length-region, length-replies, length-attacks}
 use Rattle.records.proofs.laws.ReadBack.{region-holds, region-unused, reply-back, rank-back, attack-back}
 use Rattle.solver.proofs.laws.RankTable.{ranked-same, defeats-same}

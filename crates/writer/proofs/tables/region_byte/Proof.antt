@@ -1,5 +1,4 @@
 -- `writer::tables::region_byte` adds eight bits, the highest first. Assumes nothing.
-use native.Mathlib.Omega.{arith}
 use Rattle.solver.specs.Over.{rankZero}
 use Rattle.writer.proofs.laws.RegionByte.{byte-of}
 use borrow.Author.Needs.{needs}
