@@ -5,3 +5,7 @@ pub mod Shape
 pub mod Tables
 pub mod Parts
 pub mod UnusedBits
+pub mod Rows
+pub mod Lengths
+pub mod ReadBack
+pub mod WrittenShape

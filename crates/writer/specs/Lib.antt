@@ -1,1 +1,4 @@
 pub mod Certificate
+pub mod Answer
+pub mod Rows
+pub mod Solved

@@ -1,0 +1,98 @@
+-- What the tables of a certificate store is read back as it was: the region, the replies, the ranks and the attacks. Assumes nothing.
+use Prim.Native.Nat.{ℕ, _+_, _*_, _/_, _%_, _^_, _<_, _≤_}
+use native.Mathlib.Decide.{decLt}
+use native.Mathlib.Nat.{mod-eq-of-lt}
+use native.Mathlib.Omega.{arith}
+use mathlib.Core.Bool.{Bool, true, false, _&&_}
+use mathlib.Core.List.{List, [], _∷_, _++_}
+use mathlib.Core.Path.{_≡_, refl, sym, ap, ap₂, _∙_, subst}
+use lib.Arith.{digits-lt, digits-div, digits-mod}
+use lib.Dec.{eqb, leb, ltb}
+use lib.ListN.{length, getD}
+use lib.Pow.{pow-add}
+use borrow.Author.Tests.{lt-ltb, le-ltb, lt-leb}
+use Rattle.below.specs.Table.{table}
+use Rattle.below.proofs.laws.Least.{none-any}
+use Rattle.below.proofs.laws.Table.{length-table, getD-table}
+use Rattle.bits.specs.Bit.{bit, oneIf}
+use Rattle.bits.specs.ByteBit.{byteBit}
+use Rattle.bits.specs.Digits.{digits, sum}
+use Rattle.bits.proofs.laws.Bit.{bit-sum}
+use Rattle.bits.proofs.laws.Digits.{sum-digits, all-below-of}
+use Rattle.records.specs.AttackTable.{attackBytes, storedRank, storedAttack}
+use Rattle.records.specs.RegionBits.{regionBytes, regionLength, holdsState, unusedBitSet}
+use Rattle.records.specs.ReplyBytes.{replyBytes, replyLength, storedReply}
+use Rattle.records.proofs.laws.Lengths.{length-region}
+use Rattle.records.proofs.laws.Rows.{rows-in-turn, length-row, row-at}
+
+one-if-below : (b : Bool) → oneIf b < 2
+unfolding oneIf
+one-if-below true = omega arith
+one-if-below false = omega arith
+
+is-one : (b : Bool) → eqb (oneIf b) 1 ≡ b
+unfolding oneIf
+is-one true = refl
+is-one false = refl
+
+module _ (set : ℕ → Bool) (L : ℕ) where
+  -- the bit of a place, a state's or an unused one
+  bitAt : ℕ → ℕ
+  bitAt i = oneIf (ltb i (2 ^ L) && set i)
+
+  pub region-bit : (i : ℕ) → i < 8 * regionLength L → byteBit (regionBytes set L) i ≡ oneIf (ltb i (2 ^ L) && set i)
+  unfolding byteBit regionBytes bitAt
+  region-bit i h =
+      ap (λ (n : ℕ). bit n (i % 8)) (getD-table (λ j. sum 2 (table (λ k. bitAt (8 * j + k)) 8)) (regionLength L) (i / 8) 0 (omega arith))
+      ∙ bit-sum (table (λ k. bitAt (8 * (i / 8) + k)) 8) (i % 8) (all-below-of 2 (table (λ k. bitAt (8 * (i / 8) + k)) 8) below) (omega (arith, length-table (λ k. bitAt (8 * (i / 8) + k)) 8))
+      ∙ getD-table (λ k. bitAt (8 * (i / 8) + k)) 8 (i % 8) 0 (omega arith)
+      ∙ ap bitAt (omega arith)
+    where
+      below : (k : ℕ) → k < length (table (λ k. bitAt (8 * (i / 8) + k)) 8) → getD (table (λ k. bitAt (8 * (i / 8) + k)) 8) k 0 < 2
+      below k l = subst (λ (n : ℕ). n < 2) (sym (getD-table (λ k. bitAt (8 * (i / 8) + k)) 8 k 0 (omega (arith, length-table (λ k. bitAt (8 * (i / 8) + k)) 8)))) (one-if-below (ltb (8 * (i / 8) + k) (2 ^ L) && set (8 * (i / 8) + k)))
+
+  pub region-holds : (s : ℕ) → s < 2 ^ L → holdsState (regionBytes set L) L s ≡ set s
+  unfolding holdsState regionLength
+  region-holds s h =
+      ap (λ (n : ℕ). eqb (byteBit (regionBytes set L) n) 1) (mod-eq-of-lt h)
+      ∙ ap (λ (n : ℕ). eqb n 1) (region-bit s (omega arith) ∙ ap (λ (b : Bool). oneIf (b && set s)) (lt-ltb s (2 ^ L) h))
+      ∙ is-one (set s)
+
+  pub region-unused : unusedBitSet (regionBytes set L) L ≡ false
+  unfolding unusedBitSet oneIf
+  region-unused = none-any (λ i. leb (2 ^ L) i && eqb (byteBit (regionBytes set L) i) 1) (8 * length (regionBytes set L)) (λ i h. elim (decLt i (2 ^ L)) [ yes a ↦ ap (λ (b : Bool). b && eqb (byteBit (regionBytes set L) i) 1) (lt-leb (2 ^ L) i a) | no a ↦ past i (omega arith) (omega (arith, length-region set L)) ])
+    where
+      both : (a b : Bool) → b ≡ false → (a && b) ≡ false
+      both true b e = e
+      both false b e = refl
+
+      past : (i : ℕ) → 2 ^ L ≤ i → i < 8 * regionLength L → (leb (2 ^ L) i && eqb (byteBit (regionBytes set L) i) 1) ≡ false
+      past i a l = both (leb (2 ^ L) i) (eqb (byteBit (regionBytes set L) i) 1) (ap (λ (n : ℕ). eqb n 1) (region-bit i l ∙ ap (λ (b : Bool). oneIf (b && set i)) (le-ltb i (2 ^ L) a)))
+
+pub reply-back : (replies : ℕ → ℕ → ℕ) (L U s r : ℕ) → s < 2 ^ L → r < 2 ^ U → storedReply (replyBytes replies L U) L U s r ≡ replies s r
+unfolding storedReply replyBytes replyLength
+reply-back replies L U s r h l =
+    ap₂ (λ (n m : ℕ). getD (replyBytes replies L U) (n * 2 ^ U + m) 0) (mod-eq-of-lt h) (mod-eq-of-lt l)
+    ∙ getD-table (λ i. replies (i / 2 ^ U) (i % 2 ^ U)) (2 ^ (L + U)) (s * 2 ^ U + r) 0 (omega (arith, pow-add 2 L U, digits-lt {q = s} {m = 2 ^ L} {r = r} {c = 2 ^ U} h l))
+    ∙ ap₂ replies (digits-div s l) (digits-mod s l)
+
+module _ (ranks attacks : ℕ → ℕ) (L s : ℕ) (state : s < 2 ^ L) where
+  row : ℕ → List ℕ
+  row t = digits 256 2 (ranks t) ++ (attacks t ∷ [])
+
+  in-table : (k : ℕ) → k < 3 → getD (attackBytes ranks attacks L) (3 * (s % 2 ^ L) + k) 0 ≡ getD (row s) k 0
+  unfolding attackBytes row
+  in-table k h =
+      ap₂ (λ (l : List ℕ) (n : ℕ). getD l (3 * n + k) 0) (sym (rows-in-turn row (2 ^ L))) (mod-eq-of-lt state)
+      ∙ row-at row (length-row ranks attacks) (2 ^ L) s k state h
+
+  pub rank-back : ranks s < 65536 → storedRank (attackBytes ranks attacks L) L s ≡ ranks s
+  unfolding storedRank row digits
+  rank-back h =
+      ap₂ (λ (a b : ℕ). sum 256 (a ∷ b ∷ [])) (ap (λ (n : ℕ). getD (attackBytes ranks attacks L) n 0) (omega arith) ∙ in-table 0 (omega arith)) (in-table 1 (omega arith))
+      ∙ sum-digits 256 2 (ranks s) (omega arith)
+      ∙ mod-eq-of-lt h
+
+  pub attack-back : storedAttack (attackBytes ranks attacks L) L s ≡ attacks s
+  unfolding storedAttack row digits
+  attack-back = in-table 2 (omega arith)

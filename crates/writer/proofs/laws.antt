@@ -1,0 +1,14 @@
+pub mod RegionByte
+pub mod Turns
+pub mod Tables
+pub mod Length
+pub mod Certified
+pub mod Bounds
+pub mod InParts
+pub mod Ranked
+pub mod AnyLargest
+pub mod Within
+pub mod RulesKept
+pub mod Passes
+pub mod Decided
+pub mod Longest

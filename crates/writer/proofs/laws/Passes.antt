@@ -1,0 +1,114 @@
+-- What is written passes (the mission's rule 3): the certificate of a circuit that was read from a file passes the check against that
+-- file, and the check takes its tables. Assumes nothing.
+use Prim.Native.Nat.{ℕ, _+_, _*_, _^_, _≤_}
+use native.Mathlib.Decide.{decLe}
+use native.Mathlib.Omega.{arith}
+use mathlib.Core.Bool.{Bool, true, false, cond, not}
+use mathlib.Core.List.{List, _++_}
+use mathlib.Core.Option.{some}
+use mathlib.Core.Path.{_≡_, refl, sym, ap, _∙_}
+use lib.Dec.{ltb}
+use lib.ListN.{length, take, drop}
+use lib.Seq.{take-at}
+use lib.Pow.{pow-mono}
+use Rattle.bits.specs.Bytes.{sameBytes}
+use Rattle.bits.proofs.laws.SameBytes.{equal-same-bytes}
+use Rattle.circuit.specs.Answer.{noRoom, bufferAfter}
+use Rattle.circuit.specs.Circuit.{Circuit, latchCount, uncontrollableCount}
+use Rattle.circuit.specs.Limits.{base}
+use Rattle.circuit.specs.Outcome.{Outcome, taken, _>>=_}
+use Rattle.circuit.proofs.laws.Answer.{fitted-taken, fitted-refused}
+use Rattle.circuit.proofs.laws.Outcome.{refused-is-not-taken, test-passes}
+use Rattle.file.specs.CircuitIn.{circuitIn}
+use Rattle.game.specs.Attack.{attack}
+use Rattle.game.specs.CircuitGame.{circuitGame, isRealizable}
+use Rattle.game.specs.Rank.{rank, inRegion}
+use Rattle.game.specs.Reply.{reply}
+use Rattle.records.specs.AttackTable.{attackLength}
+use Rattle.records.specs.Record.{replyKind}
+use Rattle.records.specs.RegionBits.{regionLength}
+use Rattle.records.specs.ReplyBytes.{replyLength}
+use Rattle.records.specs.Tables.{Tables, replies, attacks, tablesOf, circuitPart}
+use Rattle.records.proofs.laws.Lengths.{length-region, length-replies, length-attacks}
+use Rattle.records.proofs.laws.WrittenShape.{replies-shape, attacks-shape}
+use Rattle.checker.specs.Check.{acceptedKinds, orBadShape, tablesChecked, checkOf}
+use Rattle.checker.specs.Numbers.{otherCircuit, badTable, badReset, brokenStep}
+use Rattle.checker.specs.Rules.{badReplyTables, badAttackTable, resetOutside, resetUnranked, brokenReply, brokenAttack}
+use Rattle.checker.proofs.laws.Pass.{TablesPass}
+use Rattle.writer.specs.declared.Certified.{Certified}
+use Rattle.writer.specs.Answer.{Verdict, certifiedOutcome, certificateFor, verdictFor, CertifiedAs}
+use Rattle.writer.specs.Certificate.{replyCertificate, attackCertificate, certificateOf}
+use Rattle.writer.proofs.laws.Certified.{replies-of, attacks-of}
+use Rattle.writer.proofs.laws.RulesKept.{ownRegion, ownReplies, ownAttacks, replies-pass, attacks-pass}
+use Rattle.writer.proofs.laws.Within.{Within, read-within}
+
+-- the tables of the certificate of a circuit
+unfoldable pub ownTables : List ℕ → Circuit → Tables
+ownTables file c = cond (isRealizable c) (replies file (ownRegion c) replyKind (ownReplies c)) (attacks file (ownAttacks c))
+
+-- no test of the check refuses tables that pass
+checked-taken : (c : Circuit) (t : Tables) → TablesPass c t → tablesChecked c t ≡ taken t
+unfolding tablesChecked
+checked-taken c (replies circuit region kind table) p =
+    test-passes (badReplyTables c region table) badTable 0 _ (p .sized)
+    ∙ test-passes (resetOutside c region) badReset 0 _ (p .reset)
+    ∙ test-passes (ltb (brokenReply c region table) (circuitGame c .states * circuitGame c .readings)) brokenStep (brokenReply c region table) _ (p .rule)
+checked-taken c (attacks circuit table) p =
+    test-passes (badAttackTable c table) badTable 0 _ (p .sized)
+    ∙ test-passes (resetUnranked c table) badReset 0 _ (p .reset)
+    ∙ test-passes (ltb (brokenAttack c table) (circuitGame c .states)) brokenStep (brokenAttack c table) _ (p .rule)
+
+-- a certificate whose tables pass, of this circuit file, passes
+pub passes-of : (file certificate : List ℕ) (c : Circuit) (t : Tables) → circuitIn file ≡ taken c → tablesOf acceptedKinds certificate ≡ some t → circuitPart t ≡ file → TablesPass c t → checkOf file certificate ≡ taken t
+unfolding checkOf orBadShape
+passes-of file certificate c t reads shape same fine =
+    rw (reads, shape)
+    (test-passes (not (sameBytes (circuitPart t) file)) otherCircuit 0 (tablesChecked c t) (ap not (equal-same-bytes (circuitPart t) file same))
+    ∙ checked-taken c t fine)
+
+module _ (file : List ℕ) (c : Circuit) (within : Within file c) where
+  few : 2 ^ latchCount c ≤ 2 ^ base .latches
+  few = pow-mono (within .fewLatches)
+
+  pub reply-tables : tablesOf acceptedKinds (replyCertificate file c) ≡ some (replies file (ownRegion c) replyKind (ownReplies c))
+  unfolding replyCertificate ownRegion ownReplies regionLength replyLength
+  reply-tables =
+      replies-shape file (omega (arith, within .short)) (ownRegion c) (ownReplies c)
+      (omega (arith, length-region (inRegion (circuitGame c)) (latchCount c), few))
+      (omega (arith, length-replies (reply (circuitGame c)) (latchCount c) (uncontrollableCount c), pow-mono {i = latchCount c + uncontrollableCount c} {j = base .latches + base .uncontrollable} (omega (arith, within .fewLatches, within .fewReadings))))
+
+  pub attack-tables : tablesOf acceptedKinds (attackCertificate file c) ≡ some (attacks file (ownAttacks c))
+  unfolding attackCertificate ownAttacks attackLength
+  attack-tables = attacks-shape file (omega (arith, within .short)) (ownAttacks c) (omega (arith, length-attacks (rank (circuitGame c)) (attack (circuitGame c)) (latchCount c), few))
+
+-- what is written passes
+pub written-passes : (file : List ℕ) (c : Circuit) → circuitIn file ≡ taken c → checkOf file (certificateOf file c) ≡ taken (ownTables file c)
+unfolding ownTables circuitPart
+written-passes file c reads = by (isRealizable c) refl
+  where
+    within : Within file c
+    within = read-within file c reads
+
+    by : (b : Bool) → isRealizable c ≡ b → checkOf file (certificateOf file c) ≡ taken (cond (isRealizable c) (replies file (ownRegion c) replyKind (ownReplies c)) (attacks file (ownAttacks c)))
+    by true e = rw (replies-of file c e, e) (passes-of file (replyCertificate file c) c (replies file (ownRegion c) replyKind (ownReplies c)) reads (reply-tables file c within) refl (replies-pass c e))
+    by false e = rw (attacks-of file c e, e) (passes-of file (attackCertificate file c) c (attacks file (ownAttacks c)) reads (attack-tables file c within) refl (attacks-pass c (within .fewLatches) e))
+
+-- and so does what a writer leaves at the front of its buffer, with the verdict that it tells
+pub buffer-passes : (file : List ℕ) (c : Circuit) (before after : List ℕ) (r : Certified) (v : Verdict) → circuitIn file ≡ taken c → CertifiedAs file (taken c) before after r → certifiedOutcome r ≡ taken v → (v .realizable ≡ isRealizable c) × (checkOf file (take (v .count) after) ≡ taken (ownTables file c))
+unfolding certificateFor verdictFor bufferAfter
+buffer-passes file c before after r v reads w told = elim (decLe (length certificate) (length before)) [ yes h ↦ fits h | no h ↦ absurd (refused-is-not-taken noRoom 0 v (sym (ap verdict (fitted-refused certificate (length before) (omega arith))) ∙ sym (w .answer) ∙ told)) ]
+  where
+    certificate : List ℕ
+    certificate = certificateOf file c
+
+    verdict : Outcome (List ℕ) → Outcome Verdict
+    verdict o = o >>= λ bytes. taken (record { realizable = isRealizable c; count = length bytes })
+
+    fits : length certificate ≤ length before → (v .realizable ≡ isRealizable c) × (checkOf file (take (v .count) after) ≡ taken (ownTables file c))
+    fits h =
+        let says : taken v ≡ verdict (taken certificate) = sym told ∙ w .answer ∙ ap verdict (fitted-taken certificate (length before) h) in
+        let is : v ≡ record { realizable = isRealizable c; count = length certificate } = cc in
+        let stands : after ≡ certificate ++ drop (length certificate) before = w .bytes ∙ ap (λ (o : Outcome (List ℕ)). bufferAfter o before) (fitted-taken certificate (length before) h) in (
+          (λ x. is x .realizable),
+          ap (checkOf file) ((λ x. take (is x .count) (stands x)) ∙ take-at certificate (drop (length certificate) before) (length certificate) refl) ∙ written-passes file c reads,
+        )

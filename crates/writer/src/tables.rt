@@ -1,0 +1,183 @@
+// The records of a certificate (01, "The certificate"). Every writer takes the place where its bytes go and answers the place behind
+// them. The bounds on places only keep their sums from wrapping.
+use put::put_bytes;
+ghost use Prim.Native.Nat.{_+_, _*_, _/_, _%_, _^_, _<_, _≤_};
+ghost use lib.Dec.{ltb};
+ghost use mathlib.Core.Bool.{_&&_};
+ghost use mathlib.Core.List.{[], _∷_, _++_};
+ghost use mathlib.Core.Path.{_≡_};
+ghost use Rattle.below.specs.Table.{table};
+ghost use Rattle.bits.specs.Bit.{oneIf};
+ghost use Rattle.bits.specs.Digits.{digits};
+ghost use Rattle.bits.specs.InTurn.{inTurn};
+ghost use Rattle.bits.specs.Wrote.{Wrote};
+ghost use Rattle.circuit.specs.Limits.{base};
+ghost use Rattle.circuit.specs.Stored.{lent};
+ghost use Rattle.moves.specs.Played.{played, ranksIn};
+ghost use Rattle.solver.specs.Over.{rankZero, replyOver, attackOver};
+ghost use Rattle.writer.specs.Rows.{regionByte, attackRow};
+
+// The length and the kind, little-endian.
+pub(crate) fn put_head(out: &mut [u8], at: usize, kind: u16, length: usize) -> usize
+    requires { ⌜ at ≤ 2 ^ 63 ⌝ }
+    ensures { λ r. ⌜ Wrote (digits 256 4 length ++ digits 256 2 kind) at (now (out .entry)) (now (out .exit)) r ⌝ }
+{
+    let head = [
+        (length % 256) as u8,
+        (length / 256 % 256) as u8,
+        (length / 256 / 256 % 256) as u8,
+        (length / 256 / 256 / 256 % 256) as u8,
+        (kind % 256) as u8,
+        (kind / 256 % 256) as u8,
+    ];
+    at + put_bytes(out, at, &head)
+}
+
+// The region, a byte for eight states.
+pub(crate) fn put_region(out: &mut [u8], at: usize, ranks: &[u16], states: usize) -> usize
+    requires { ⌜ at ≤ 2 ^ 63 ⌝ }
+    requires { ⌜ states ≤ 2 ^ base .latches ⌝ }
+    ensures { λ r. ⌜ Wrote (table (regionByte (rankZero (now (ranks .entry))) states) ((states + 7) / 8)) at (now (out .entry)) (now (out .exit)) r ⌝ }
+{
+    let n = (states + 7) / 8;
+    let mut behind = at;
+    let mut j = 0;
+    while j < n {
+        let byte = [region_byte(ranks, states, j)];
+        behind += put_bytes(out, behind, &byte);
+        j += 1;
+    }
+    behind
+}
+
+// Eight states, the first at the lowest bit.
+fn region_byte(ranks: &[u16], states: usize, j: usize) -> u8
+    requires { ⌜ j < 2 ^ 32 ⌝ }
+    ensures { λ r. ⌜ r ≡ regionByte (rankZero (now (ranks .entry))) states j ⌝ }
+{
+    let s = 8 * j;
+    let b7 = region_bit(ranks, states, s + 7);
+    let b6 = region_bit(ranks, states, s + 6) + 2 * b7;
+    let b5 = region_bit(ranks, states, s + 5) + 2 * b6;
+    let b4 = region_bit(ranks, states, s + 4) + 2 * b5;
+    let b3 = region_bit(ranks, states, s + 3) + 2 * b4;
+    let b2 = region_bit(ranks, states, s + 2) + 2 * b3;
+    let b1 = region_bit(ranks, states, s + 1) + 2 * b2;
+    region_bit(ranks, states, s) + 2 * b1
+}
+
+// 1 for a state of rank 0, else 0; behind the last state 0.
+fn region_bit(ranks: &[u16], states: usize, s: usize) -> u8
+    ensures { λ r. ⌜ r ≡ oneIf (ltb s states && rankZero (now (ranks .entry)) s) ⌝ }
+    ensures { λ r. ⌜ r ≤ 1 ⌝ }
+{
+    if s < states {
+        if moves::rank_at(ranks, s) == 0 {
+            return 1;
+        }
+    }
+    0
+}
+
+// The replies, a byte each, at s × 2^U + reading.
+pub(crate) fn put_replies<'a>(
+    out: &mut [u8],
+    at: usize,
+    input: &'a [u16],
+    controllable: &'a [u8],
+    latch: &'a [u16],
+    next: &'a [u16],
+    output: u16,
+    gate: &'a [u16],
+    left: &'a [u16],
+    right: &'a [u16],
+    states: usize,
+    readings: usize,
+    controls: usize,
+    ranks: &'a [u16],
+) -> usize
+    requires { ⌜ at ≤ 2 ^ 63 ⌝ }
+    requires { ⌜ states ≤ 2 ^ base .latches ⌝ }
+    requires { ⌜ 0 < readings ⌝ }
+    requires { ⌜ readings ≤ 2 ^ base .uncontrollable ⌝ }
+    ensures { λ r. ⌜ Wrote (table (λ i. replyOver (played 0 controls (lent 0 (now (input .entry)) (now (controllable .entry)) (now (latch .entry)) (now (next .entry)) output (now (gate .entry)) (now (left .entry)) (now (right .entry)))) (now (ranks .entry)) (i / readings) (i % readings)) (states * readings)) at (now (out .entry)) (now (out .exit)) r ⌝ }
+{
+    let n = states * readings;
+    let mut behind = at;
+    let mut i = 0;
+    while i < n {
+        let state = i / readings;
+        let reading = i % readings;
+        let byte = [solver::reply_lent(
+            input,
+            controllable,
+            latch,
+            next,
+            output,
+            gate,
+            left,
+            right,
+            controls,
+            ranks,
+            state as u16,
+            reading as u8,
+        )];
+        behind += put_bytes(out, behind, &byte);
+        i += 1;
+    }
+    behind
+}
+
+// Ranks and attacks, three bytes for a state.
+pub(crate) fn put_attacks<'a>(
+    out: &mut [u8],
+    at: usize,
+    input: &'a [u16],
+    controllable: &'a [u8],
+    latch: &'a [u16],
+    next: &'a [u16],
+    output: u16,
+    gate: &'a [u16],
+    left: &'a [u16],
+    right: &'a [u16],
+    states: usize,
+    readings: usize,
+    controls: usize,
+    ranks: &'a [u16],
+) -> usize
+    requires { ⌜ at ≤ 2 ^ 63 ⌝ }
+    requires { ⌜ states ≤ 2 ^ base .latches ⌝ }
+    ensures { λ r. ⌜ Wrote (inTurn (attackRow (ranksIn (now (ranks .entry))) (attackOver (played readings controls (lent 0 (now (input .entry)) (now (controllable .entry)) (now (latch .entry)) (now (next .entry)) output (now (gate .entry)) (now (left .entry)) (now (right .entry)))) (now (ranks .entry)))) states) at (now (out .entry)) (now (out .exit)) r ⌝ }
+{
+    let mut behind = at;
+    let mut s = 0;
+    while s < states {
+        let rank = moves::rank_at(ranks, s);
+        let attack = solver::attack_lent(
+            input,
+            controllable,
+            latch,
+            next,
+            output,
+            gate,
+            left,
+            right,
+            readings,
+            controls,
+            ranks,
+            s as u16,
+        );
+        behind = put_row(out, behind, rank, attack);
+        s += 1;
+    }
+    behind
+}
+
+// A rank, little-endian, and an attack.
+fn put_row(out: &mut [u8], at: usize, rank: u16, attack: u8) -> usize
+    requires { ⌜ at + 3 < 2 ^ 64 ⌝ }
+    ensures { λ r. ⌜ Wrote (digits 256 2 rank ++ (attack ∷ [])) at (now (out .entry)) (now (out .exit)) r ⌝ }
+{
+    let row = [(rank % 256) as u8, (rank / 256 % 256) as u8, attack];
+    at + put_bytes(out, at, &row)
+}
