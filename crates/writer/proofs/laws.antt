@@ -12,3 +12,4 @@ pub mod RulesKept
 pub mod Passes
 pub mod Decided
 pub mod Longest
+pub mod Front

@@ -2,6 +2,7 @@
 mod tables;
 
 use circuit::Circuit;
+use circuit::Read;
 use circuit::Refusal;
 use put::put_bytes;
 use records::ATTACKS;
@@ -22,6 +23,7 @@ ghost use Rattle.circuit.specs.Outcome.{taken};
 ghost use Rattle.circuit.specs.Stored.{lent, meant, solvable};
 ghost use Rattle.game.specs.CircuitGame.{isRealizable};
 ghost use Rattle.checker.specs.Counted.{Counted};
+ghost use Rattle.file.specs.CircuitIn.{circuitIn};
 ghost use Rattle.writer.specs.Answer.{CertifiedAs};
 ghost use Rattle.writer.specs.Solved.{Solved};
 
@@ -34,6 +36,18 @@ pub enum Certified {
 
 // 10: lent buffer shorter than what must be written (01, "The numbers").
 const NO_ROOM: u8 = 10;
+
+// Writes the certificate of a file at the front of a lent buffer: the file's refusals, then 10. A refusal writes nothing.
+pub fn certify(file: &[u8], out: &mut [u8]) -> Certified
+    ensures { λ r. ⌜ CertifiedAs (now (file .entry)) (circuitIn (now (file .entry))) (now (out .entry)) (now (out .exit)) r ⌝ }
+{
+    let read = file::read(file);
+    let answer = read.answer;
+    match answer {
+        Read::Refused(r) => Certified::Refused(r),
+        Read::Taken => certify_circuit(read.circuit, file, out),
+    }
+}
 
 // Writes the certificate of a circuit that was read from `file` at the front of a lent buffer. One with more inputs of a sort than a
 // circuit may have counts as the empty circuit. Where the buffer is too short, nothing is written.

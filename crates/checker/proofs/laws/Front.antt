@@ -22,11 +22,11 @@ module _ (file certificate : List ℕ) (r : FileRead) (given : ReadAs (circuitIn
   behind o = o >>= λ c. circuitChecked c file certificate
 
   pub front-checked : r .answer ≡ Taken → (k : Checked) → checkedOutcome k ≡ circuitChecked (solvable (meant (r .circuit))) file certificate → checkedOutcome k ≡ answerOf file certificate
-  unfolding behind _>>=_
+  unfolding behind
   front-checked e k q =
       let m : Means file r = taken-means file r given e in
       q ∙ ap (λ (d : Circuit). circuitChecked d file certificate) (m .solvable-is) ∙ sym (answer-is-checked file certificate ∙ ap behind (m .read))
 
   pub front-refused : (x : Refusal) → r .answer ≡ ReadRefused x → checkedOutcome (Refused x) ≡ answerOf file certificate
-  unfolding behind checkedOutcome _>>=_
+  unfolding behind checkedOutcome
   front-refused x e = sym (answer-is-checked file certificate ∙ ap behind (refused-means file r given x e))

@@ -22,7 +22,7 @@ module _ (file : List ℕ) (r : FileRead) (given : ReadAs (circuitIn file) r) wh
   then room o = o >>= λ c. printedInto c room
 
   pub front-printed : (before after : List ℕ) (w : Written) → r .answer ≡ Taken → WrittenAs (printedInto (meant (r .circuit)) (length before)) before after w → WrittenAs (filePrinted file (length before)) before after w
-  unfolding filePrinted then _>>=_
+  unfolding filePrinted then
   front-printed before after w e p =
       let m : Means file r = taken-means file r given e in
       subst (λ (o : Outcome (List ℕ)). WrittenAs o before after w)
@@ -30,7 +30,7 @@ module _ (file : List ℕ) (r : FileRead) (given : ReadAs (circuitIn file) r) wh
       p
 
   pub front-refused : (buffer : List ℕ) (x : Refusal) → r .answer ≡ ReadRefused x → WrittenAs (filePrinted file (length buffer)) buffer buffer (Refused x)
-  unfolding filePrinted then writtenOutcome countOf bufferAfter _>>=_
+  unfolding filePrinted then writtenOutcome countOf bufferAfter
   front-refused buffer x e =
       let q : filePrinted file (length buffer) ≡ refused (x .number) (x .place) = ap (then (length buffer)) (refused-means file r given x e) in
       subst (λ (o : Outcome (List ℕ)). WrittenAs o buffer buffer (Refused x)) (sym q) (record { answer = refl; bytes = refl })
