@@ -1,0 +1,34 @@
+-- `checker::check` meets its contract: reading, then the check for the circuit that was read. Assumes nothing.
+use borrow.Author.Needs.{needs}
+use Rattle.checker.proofs.laws.Front.{front-checked, front-refused}
+use Rattle.checker.proofs.check.Statement.{statement}
+use Rattle.checker.proofs.check.Tie as tie
+
+read-requires : tie.Need-read-requires
+read-requires c κs = search needs
+
+enum-known-answer : tie.Need-enum-known-answer
+enum-known-answer c = search needs
+
+enum-told : tie.Need-enum-told
+enum-told c = search needs
+
+check-circuit-requires : tie.Need-check-circuit-requires
+check-circuit-requires c κs = search needs
+
+returns : tie.Need-returns
+returns c =
+    let a = c .before .before .before .before .before .before .args in
+    let r = c .before .before .before .read in
+    front-refused (a .file .now) (a .certificate .now) (r .result) (r .ensures) _ (c .before .answer .given .1)
+
+returns-2 : tie.Need-returns-2
+returns-2 c =
+    let a = c .before .before .before .before .before .before .args in
+    let r = c .before .before .before .read in
+    front-checked (a .file .now) (a .certificate .now) (r .result) (r .ensures) (c .before .enum-told .given .1) (c .check-circuit .result) (c .check-circuit .ensures)
+
+pub check-spec : {M : Type 1} → statement M
+check-spec =
+    tie.close
+    (tie.spec read-requires enum-known-answer enum-told check-circuit-requires returns returns-2)
