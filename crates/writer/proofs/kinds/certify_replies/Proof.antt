@@ -1,4 +1,4 @@
--- `writer::certify_replies` writes heads and tables one behind the other where the buffer has room for all, and refuses else. Assumes
+-- `writer::kinds::certify_replies` writes heads and tables one behind the other where the buffer has room for all, and refuses else. Assumes
 -- nothing.
 use Prim.Native.Nat.{_+_, _*_, _/_, _^_, _<_}
 use native.Mathlib.Omega.{arith}
@@ -11,8 +11,8 @@ use Rattle.writer.specs.Rows.{regionByte}
 use Rattle.writer.proofs.laws.Bounds.{few-replies, solved-small, head-place, table-place}
 use Rattle.writer.proofs.laws.InParts.{no-reply-room, replies-in-parts}
 use borrow.Author.Needs.{needs}
-use Rattle.writer.proofs.certify_replies.Statement.{statement}
-use Rattle.writer.proofs.certify_replies.Tie as tie
+use Rattle.writer.proofs.kinds.certify_replies.Statement.{statement}
+use Rattle.writer.proofs.kinds.certify_replies.Tie as tie
 
 -- a slice has fewer than 2^63 bytes
 room : (s : tie.Start) → length (s .args .out .now) < 2 ^ 63

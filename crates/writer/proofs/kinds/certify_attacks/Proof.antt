@@ -1,4 +1,4 @@
--- `writer::certify_attacks` writes heads and table one behind the other where the buffer has room for all, and refuses else. Assumes
+-- `writer::kinds::certify_attacks` writes heads and table one behind the other where the buffer has room for all, and refuses else. Assumes
 -- nothing.
 use Prim.Native.Nat.{_*_, _^_, _<_}
 use native.Mathlib.Omega.{arith}
@@ -9,8 +9,8 @@ use Rattle.records.specs.Record.{circuitKind, attackKind}
 use Rattle.writer.proofs.laws.Bounds.{solved-small, head-place}
 use Rattle.writer.proofs.laws.InParts.{no-attack-room, attacks-in-parts}
 use borrow.Author.Needs.{needs}
-use Rattle.writer.proofs.certify_attacks.Statement.{statement}
-use Rattle.writer.proofs.certify_attacks.Tie as tie
+use Rattle.writer.proofs.kinds.certify_attacks.Statement.{statement}
+use Rattle.writer.proofs.kinds.certify_attacks.Tie as tie
 
 -- a slice has fewer than 2^63 bytes
 room : (s : tie.Start) → length (s .args .out .now) < 2 ^ 63
