@@ -4,4 +4,5 @@ pub mod Count
 pub mod Among
 pub mod Take
 pub mod Passed
+pub mod LeastFrom
 pub mod Filled

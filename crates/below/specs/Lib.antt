@@ -1,3 +1,4 @@
 pub mod Least
+pub mod LeastFrom
 pub mod Table
 pub mod Among

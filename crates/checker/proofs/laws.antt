@@ -1,6 +1,7 @@
 pub mod Pass
 pub mod Rules
 pub mod Means
+pub mod ReadPassed
 pub mod Stages
 pub mod Faults
 pub mod Judged
@@ -10,4 +11,5 @@ pub mod Sizes
 pub mod Shaped
 pub mod Counted
 pub mod Answer
+pub mod Exact
 pub mod Front

@@ -5,3 +5,4 @@ pub mod Answer
 pub mod CircuitChecked
 pub mod Counted
 pub mod Faults
+pub mod CheckRow

@@ -4,15 +4,9 @@ use crate::power;
 use circuit::Refusal;
 use records::stored::stored_attack;
 use records::stored::stored_rank;
-use rules::keeps_unranked;
+use rules::defeats;
 ghost use mathlib.Core.Path.{_≡_};
 ghost use Rattle.circuit.specs.Stored.{lent};
-ghost use Prim.Native.Nat.{_≤_};
-ghost use Rattle.circuit.specs.Circuit.{controllableCount};
-ghost use Rattle.circuit.specs.Limits.{base};
-ghost use Rattle.game.specs.CircuitGame.{circuitGame};
-ghost use Rattle.game.specs.Rank.{defeats as defeatsOf};
-ghost use Rattle.records.specs.AttackTable.{storedRank};
 ghost use Rattle.checker.specs.Answer.{ofAttacks, checkedOutcome};
 ghost use Rattle.checker.specs.CircuitChecked.{attacksJudged};
 ghost use Rattle.checker.specs.Counted.{Counted};
@@ -157,58 +151,11 @@ fn attack_broken<'a>(
         gate,
         left,
         right,
-        latches,
-        controls,
         table,
+        latches,
+        power(controls),
         rank - 1,
         state,
         attack,
     )
-}
-
-// Whether under a reading every control gives error 1 or a next state of stored rank 1 to a bound.
-fn defeats<'a>(
-    input: &'a [u16],
-    controllable: &'a [u8],
-    latch: &'a [u16],
-    next: &'a [u16],
-    output: u16,
-    gate: &'a [u16],
-    left: &'a [u16],
-    right: &'a [u16],
-    latches: usize,
-    controls: usize,
-    table: &'a [u8],
-    bound: u16,
-    state: u16,
-    reading: u8,
-) -> bool
-    requires { ⌜ controls ≡ controllableCount (lent 0 (now input) (now controllable) (now latch) (now next) output (now gate) (now left) (now right)) ⌝ }
-    requires { ⌜ controls ≤ base .controllable ⌝ }
-    ensures { λ r. ⌜ r ≡ defeatsOf (circuitGame (lent 0 (now (input .entry)) (now (controllable .entry)) (now (latch .entry)) (now (next .entry)) output (now (gate .entry)) (now (left .entry)) (now (right .entry)))) (storedRank (now (table .entry)) latches) bound state reading ⌝ }
-{
-    let n = power(controls);
-    let mut k = 0;
-    while k < n {
-        if keeps_unranked(
-            input,
-            controllable,
-            latch,
-            next,
-            output,
-            gate,
-            left,
-            right,
-            table,
-            latches,
-            bound,
-            state,
-            reading,
-            k as u8,
-        ) {
-            return false;
-        }
-        k += 1;
-    }
-    true
 }

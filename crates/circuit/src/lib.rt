@@ -1,6 +1,7 @@
 // The circuit kind: a circuit as a value, its limits, and the number and place of a refusal.
 pub mod counts;
 pub mod limits;
+pub mod stored;
 
 // A circuit (01, "The file"): counts and literals, lines in the order of the file.
 // Arrays are of numbers, so that a step can lend them; what lies behind a count isn't read.
@@ -35,12 +36,15 @@ impl Circuit {
 
     pub const OUTPUTS: usize = 1;
 
-    // How many states, readings and controls there can be, and replies, variables with the constant among them, and positions that a symbol can name.
+    // How many states, readings and controls there can be, and bytes of a region, replies, variables with the constant among them, and
+    // positions that a symbol can name.
     pub const STATES: usize = 1 << Circuit::LATCHES;
 
     pub const READINGS: usize = 1 << Circuit::UNCONTROLLABLE;
 
     pub const CONTROLS: usize = 1 << Circuit::CONTROLLABLE;
+
+    pub const REGION: usize = Circuit::STATES / 8;
 
     pub const REPLIES: usize = Circuit::STATES * Circuit::READINGS;
 

@@ -1,1 +1,2 @@
 pub mod CircuitIn
+pub mod WriterRow

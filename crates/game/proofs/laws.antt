@@ -1,5 +1,6 @@
 pub mod Alarms
 pub mod Keeps
+pub mod InLane
 pub mod Rounds
 pub mod Region
 pub mod Rank
@@ -8,3 +9,4 @@ pub mod Reply
 pub mod Attack
 pub mod Play
 pub mod CircuitGame
+pub mod Alike

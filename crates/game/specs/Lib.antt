@@ -1,5 +1,6 @@
 pub mod Game
 pub mod Keeps
+pub mod InLane
 pub mod Region
 pub mod Rank
 pub mod Reply
@@ -7,4 +8,5 @@ pub mod Attack
 pub mod Verdict
 pub mod Play
 pub mod CircuitGame
+pub mod Alike
 pub mod Listing

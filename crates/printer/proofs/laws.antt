@@ -3,3 +3,4 @@ pub mod Section
 pub mod Tables
 pub mod Printed
 pub mod Front
+pub mod ReadsBack

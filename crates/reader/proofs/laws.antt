@@ -1,4 +1,5 @@
 pub mod Judged
+pub mod FoundLine
 pub mod Position
 pub mod SectionLoop
 pub mod PositionNumber

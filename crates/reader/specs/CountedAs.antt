@@ -1,6 +1,6 @@
 -- What the code's answer says of a circuit whose inputs are counted (01, "The numbers", 9). Assumes nothing.
 use Prim.Native.Nat.{ℕ}
-use mathlib.Core.Bool.{Bool, true, false}
+use mathlib.Core.Bool.{true, false}
 use mathlib.Core.List.{List, []}
 use mathlib.Core.Path.{_≡_}
 use lib.ListN.{take}

@@ -1,16 +1,17 @@
 -- What the code's answers say of the header and of a file from its header on (01, "The numbers"). Assumes nothing.
-use Prim.Native.Nat.{ℕ, _+_, _≤_}
+use Prim.Native.Nat.{ℕ, _≤_}
 use mathlib.Core.List.{List, [], _∷_}
 use mathlib.Core.Option.{none, some}
 use mathlib.Core.Path.{_≡_}
 use lib.ListN.{length, drop}
 use Rattle.circuit.specs.Answer.{ReadAs}
 use Rattle.circuit.specs.Circuit.{Circuit, tooMany}
-use Rattle.circuit.specs.Limits.{Limits, base}
-use Rattle.circuit.specs.Outcome.{Outcome, taken, refused, _>>=_, _>>_, refuseIf}
+use Rattle.circuit.specs.Limits.{base}
+use Rattle.circuit.specs.Outcome.{Outcome, taken, _>>=_, _>>_, refuseIf}
 use Rattle.circuit.specs.declared.FileRead.{FileRead}
 use Rattle.reader.specs.declared.fields.Row.{Row}
 use Rattle.reader.specs.declared.fields.Row.the-variants.{Of, Bad}
+use Rattle.reader.specs.declared.line.Cursor.{Cursor}
 use Rattle.text.specs.Header.{Header, headerNumbers}
 use Rattle.text.specs.Line.{lines}
 use Rattle.text.specs.Numbers.{tooManyInputs}
@@ -27,12 +28,13 @@ HeaderAs line Bad = headerNumbers line ≡ none
 unfoldable pub circuitOfLines : Outcome TextFile → Outcome Circuit
 circuitOfLines o = o >>= λ f. refuseIf (tooMany base (circuitOf f)) tooManyInputs 0 >> taken (circuitOf f)
 
-abbrev pub LinesAs : Header → (bytes : List ℕ) (at : ℕ) → FileRead → Type 0
-LinesAs h bytes at r = ReadAs (circuitOfLines (linesRead h (lines (drop at bytes)))) r
+abbrev pub LinesAs : Header → (bytes : List ℕ) (from : Cursor) → FileRead → Type 0
+LinesAs h bytes from r = ReadAs (circuitOfLines (linesRead h (lines (drop (from .at) bytes)))) r
 
--- a header within the limits
-pub record LinesRoom (bytes : List ℕ) (at M inputs latches gates : ℕ) : Type 0 where
-  pub within : at ≤ length bytes
+-- a header within the limits, and line 2 behind it
+pub record LinesRoom (bytes : List ℕ) (from : Cursor) (M inputs latches gates : ℕ) : Type 0 where
+  pub within : from .at ≤ length bytes
+  pub second : from .line ≡ 2
   pub largest : M ≤ base .variable
   pub inputs-most : inputs ≤ base .inputs
   pub latches-most : latches ≤ base .latches

@@ -1,8 +1,7 @@
 -- What the code's answers say of symbol lines (01, "The file", rule 5), and its marks for positions that are named. Assumes nothing.
-use Prim.Native.Nat.{ℕ, suc, _+_, _≤_, _<_}
-use mathlib.Core.Bool.{Bool, true, false, cond, _&&_}
-use mathlib.Core.List.{List, [], _∷_, _++_}
-use mathlib.Core.Option.{none, some}
+use Prim.Native.Nat.{ℕ, suc, _+_, _<_}
+use mathlib.Core.Bool.{Bool, cond, _&&_}
+use mathlib.Core.List.{List, [], _∷_}
 use mathlib.Core.Path.{_≡_}
 use lib.Dec.{eqb}
 use lib.ListN.{length, getD, drop}
@@ -22,7 +21,7 @@ wellNamed text =
 
 -- a header of these counts
 unfoldable pub counted : (inputs latches : ℕ) → Header
-counted inputs latches = record { largest = 0; inputs = inputs; latches = latches; outputs = 1; gates = 0 }
+counted inputs latches = record { largest = 0; inputs = inputs; latches = latches; outputs = base .outputs; gates = 0 }
 
 -- where the marks have a letter's position: inputs, then latches, then the output
 unfoldable pub slotOf : (letter position : ℕ) → ℕ

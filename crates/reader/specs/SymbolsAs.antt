@@ -8,14 +8,15 @@ use Rattle.circuit.specs.Limits.{base}
 use Rattle.circuit.specs.Outcome.{taken, refused}
 use Rattle.reader.specs.declared.body.Sectioned.{Sectioned}
 use Rattle.reader.specs.declared.body.Sectioned.the-variants.{Done, Refused}
+use Rattle.reader.specs.declared.line.Cursor.{Cursor}
 use Rattle.text.specs.Line.{lines}
 use Rattle.text.specs.Symbol.{Symbol, symbolLines}
 use Rattle.reader.specs.SymbolAs.{Flags, counted}
 
 -- what reading the symbols may count on: counts within the limits, nothing marked yet, a place within the file
-pub record SymbolRoom (file : List ℕ) (at place inputs latches : ℕ) (marks flags : List ℕ) : Type 0 where
-  pub within : at ≤ length file
-  pub places : place < 2 ^ 32
+pub record SymbolRoom (file : List ℕ) (from : Cursor) (inputs latches : ℕ) (marks flags : List ℕ) : Type 0 where
+  pub within : from .at ≤ length file
+  pub places : from .line < 2 ^ 32
   pub inputs-most : inputs ≤ base .inputs
   pub latches-most : latches ≤ base .latches
   pub marks-all : length marks ≡ base .inputs + base .latches + base .outputs
@@ -23,14 +24,17 @@ pub record SymbolRoom (file : List ℕ) (at place inputs latches : ℕ) (marks f
   pub flags-all : length flags ≡ inputs
   pub flags-none : (i : ℕ) → getD flags i 0 ≡ 0
 
--- the symbols were read, and the flags say which inputs they make controllable
-pub record SymbolsRead (inputs latches place : ℕ) (file : List ℕ) (at : ℕ) (flags : List ℕ) : Type 0 where
+-- the symbols were read up to this cursor, with at most a comment behind it, and the flags say which inputs they make controllable
+pub record SymbolsRead (inputs latches : ℕ) (file : List ℕ) (from : Cursor) (flags : List ℕ) (next : Cursor) : Type 0 where
   pub symbols : List Symbol
   pub comment : Option (List ℕ)
-  pub whole : symbolLines (counted inputs latches) place [] (lines (drop at file)) ≡ taken (record { symbols = symbols; comment = comment })
+  pub whole : symbolLines (counted inputs latches) (from .line) [] (lines (drop (from .at) file)) ≡ taken (record { symbols = symbols; comment = comment })
+  pub rest : symbolLines (counted inputs latches) (next .line) symbols (lines (drop (next .at) file)) ≡ taken (record { symbols = symbols; comment = comment })
+  pub within : next .at ≤ length file
+  pub line : next .line ≡ from .line + length symbols
   pub flagged : Flags inputs flags symbols
 
-abbrev pub SymbolsAs : (inputs latches place : ℕ) (file : List ℕ) (at : ℕ) (flags : List ℕ) → Sectioned → Type 0
-SymbolsAs inputs latches place file at flags (Done next) = SymbolsRead inputs latches place file at flags
-SymbolsAs inputs latches place file at flags (Refused r) =
-    symbolLines (counted inputs latches) place [] (lines (drop at file)) ≡ refused (r .number) (r .place)
+abbrev pub SymbolsAs : (inputs latches : ℕ) (file : List ℕ) (from : Cursor) (flags : List ℕ) → Sectioned → Type 0
+SymbolsAs inputs latches file from flags (Done next) = SymbolsRead inputs latches file from flags next
+SymbolsAs inputs latches file from flags (Refused r) =
+    symbolLines (counted inputs latches) (from .line) [] (lines (drop (from .at) file)) ≡ refused (r .number) (r .place)

@@ -6,6 +6,7 @@ use lib.ListN.{length}
 use Rattle.circuit.specs.Outcome.{taken, refused}
 use Rattle.reader.specs.declared.body.Bodied.{Bodied}
 use Rattle.reader.specs.declared.body.Bodied.the-variants.{Lines, Refused}
+use Rattle.reader.specs.declared.line.Cursor.{Cursor}
 use Rattle.reader.specs.Marks.{Marks}
 use Rattle.text.specs.Numbers.{notDefined}
 use Rattle.text.specs.Section.{used}
@@ -17,7 +18,7 @@ pub record UsedAs (marks literals : List ℕ) (r : ℕ) : Type 0 where
   pub known : r ≡ length literals → (defined : List ℕ) (place : ℕ) → Marks marks defined → used defined place literals ≡ taken tt
 
 -- what latches and output use, and what is handed on if it is defined
-abbrev pub UsedLines : (marks next : List ℕ) (inputs behind literal : ℕ) → Bodied → Type 0
+abbrev pub UsedLines : (marks next : List ℕ) (inputs : ℕ) (behind : Cursor) (literal : ℕ) → Bodied → Type 0
 UsedLines marks next inputs behind literal (Lines at output) =
     (at ≡ behind)
     × (output ≡ literal)

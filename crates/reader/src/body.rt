@@ -9,6 +9,7 @@ use crate::judge::first_of;
 use crate::judge::is_marked;
 use crate::judge::is_unknown;
 use crate::judge::too_large;
+use crate::line::Cursor;
 use crate::line::line_end;
 use crate::symbols::first_unknown;
 use crate::symbols::widen;
@@ -31,9 +32,9 @@ pub enum Lined {
     Fault(u8),
 }
 
-// How a section came out: the place behind it, or a refusal.
+// How a section came out: the cursor behind it, or a refusal.
 pub enum Sectioned {
-    Done(usize),
+    Done(Cursor),
     Refused(Refusal),
 }
 
@@ -115,26 +116,20 @@ fn mark(defined: &mut [u8], own: u16)
 }
 
 // The input lines: as many as there are inputs.
-fn input_lines(
-    s: &[u8],
-    from: usize,
-    place: usize,
-    m: u16,
-    defined: &mut [u8],
-    input: &mut [u16],
-) -> Sectioned
-    requires { ⌜ Room (now s) from place m (now defined) (length (now input)) ⌝ }
-    ensures { λ r. ⌜ SectionAs (inputRule m) (length (now (input .entry))) place (now (s .entry)) from (now (defined .entry)) (now (defined .exit)) (inputRow (now (input .exit))) r ⌝ }
+fn input_lines(s: &[u8], from: Cursor, m: u16, defined: &mut [u8], input: &mut [u16]) -> Sectioned
+    requires { ⌜ Room (now s) from m (now defined) (length (now input)) ⌝ }
+    ensures { λ r. ⌜ SectionAs (inputRule m) (length (now (input .entry))) (now (s .entry)) from (now (defined .entry)) (now (defined .exit)) (inputRow (now (input .exit))) r ⌝ }
 {
-    let mut at = from;
+    let mut here = from;
     let mut i = 0;
     while i < input.len() {
+        let at = here.at;
         let end = line_end(s, at);
         match input_line(&s[at..end], m, defined) {
             Lined::Fault(number) => {
                 return Sectioned::Refused(Refusal {
                     number,
-                    place: place + i,
+                    place: here.line,
                 });
             }
             Lined::Row(own, _, _) => {
@@ -142,35 +137,36 @@ fn input_lines(
                 mark(defined, own);
             }
         }
-        at = end;
+        here.at = end;
+        here.line += 1;
         i += 1;
     }
-    Sectioned::Done(at)
+    Sectioned::Done(here)
 }
 
 // The latch lines.
 fn latch_lines(
     s: &[u8],
-    from: usize,
-    place: usize,
+    from: Cursor,
     m: u16,
     defined: &mut [u8],
     latch: &mut [u16],
     next: &mut [u16],
 ) -> Sectioned
-    requires { ⌜ Room (now s) from place m (now defined) (length (now latch)) ⌝ }
+    requires { ⌜ Room (now s) from m (now defined) (length (now latch)) ⌝ }
     requires { ⌜ length (now next) ≡ length (now latch) ⌝ }
-    ensures { λ r. ⌜ SectionAs (latchRule m) (length (now (latch .entry))) place (now (s .entry)) from (now (defined .entry)) (now (defined .exit)) (latchRow (now (latch .exit)) (now (next .exit))) r ⌝ }
+    ensures { λ r. ⌜ SectionAs (latchRule m) (length (now (latch .entry))) (now (s .entry)) from (now (defined .entry)) (now (defined .exit)) (latchRow (now (latch .exit)) (now (next .exit))) r ⌝ }
 {
-    let mut at = from;
+    let mut here = from;
     let mut i = 0;
     while i < latch.len() {
+        let at = here.at;
         let end = line_end(s, at);
         match latch_line(&s[at..end], m, defined) {
             Lined::Fault(number) => {
                 return Sectioned::Refused(Refusal {
                     number,
-                    place: place + i,
+                    place: here.line,
                 });
             }
             Lined::Row(own, then, _) => {
@@ -179,37 +175,38 @@ fn latch_lines(
                 mark(defined, own);
             }
         }
-        at = end;
+        here.at = end;
+        here.line += 1;
         i += 1;
     }
-    Sectioned::Done(at)
+    Sectioned::Done(here)
 }
 
 // The gate lines.
 fn gate_lines(
     s: &[u8],
-    from: usize,
-    place: usize,
+    from: Cursor,
     m: u16,
     defined: &mut [u8],
     gate: &mut [u16],
     left: &mut [u16],
     right: &mut [u16],
 ) -> Sectioned
-    requires { ⌜ Room (now s) from place m (now defined) (length (now gate)) ⌝ }
+    requires { ⌜ Room (now s) from m (now defined) (length (now gate)) ⌝ }
     requires { ⌜ length (now left) ≡ length (now gate) ⌝ }
     requires { ⌜ length (now right) ≡ length (now gate) ⌝ }
-    ensures { λ r. ⌜ SectionAs (gateRule m) (length (now (gate .entry))) place (now (s .entry)) from (now (defined .entry)) (now (defined .exit)) (gateRow (now (gate .exit)) (now (left .exit)) (now (right .exit))) r ⌝ }
+    ensures { λ r. ⌜ SectionAs (gateRule m) (length (now (gate .entry))) (now (s .entry)) from (now (defined .entry)) (now (defined .exit)) (gateRow (now (gate .exit)) (now (left .exit)) (now (right .exit))) r ⌝ }
 {
-    let mut at = from;
+    let mut here = from;
     let mut i = 0;
     while i < gate.len() {
+        let at = here.at;
         let end = line_end(s, at);
         match gate_line(&s[at..end], m, defined) {
             Lined::Fault(number) => {
                 return Sectioned::Refused(Refusal {
                     number,
-                    place: place + i,
+                    place: here.line,
                 });
             }
             Lined::Row(own, a, b) => {
@@ -219,15 +216,16 @@ fn gate_lines(
                 mark(defined, own);
             }
         }
-        at = end;
+        here.at = end;
+        here.line += 1;
         i += 1;
     }
-    Sectioned::Done(at)
+    Sectioned::Done(here)
 }
 
-// How the lines before the symbols came out: the place behind them and the output's literal, or a refusal.
+// How the lines before the symbols came out: the cursor behind them and the output's literal, or a refusal.
 pub enum Bodied {
-    Lines(usize, u16),
+    Lines(Cursor, u16),
     Refused(Refusal),
 }
 
@@ -240,45 +238,45 @@ fn refusal(number: u8, place: usize) -> Bodied
 // Inputs and latches.
 fn first_lines(
     s: &[u8],
-    from: usize,
+    from: Cursor,
     m: u16,
-    gates: usize,
     defined: &mut [u8],
     input: &mut [u16],
     latch: &mut [u16],
     next: &mut [u16],
 ) -> Sectioned
     requires { ⌜ FirstRoom (now s) from m (now defined) (now input) (now latch) (now next) ⌝ }
-    ensures { λ r. ⌜ FirstAs (headerWith m (length (now (input .entry))) (length (now (latch .entry))) gates) (now (s .entry)) from (now (defined .exit)) (now (input .exit)) (now (latch .exit)) (now (next .exit)) r ⌝ }
+    ensures { λ r. ⌜ FirstAs m (length (now (input .entry))) (length (now (latch .entry))) (now (s .entry)) from (now (defined .exit)) (now (input .exit)) (now (latch .exit)) (now (next .exit)) r ⌝ }
 {
-    match input_lines(s, from, 2, m, defined, input) {
+    match input_lines(s, from, m, defined, input) {
         Sectioned::Refused(r) => Sectioned::Refused(r),
-        Sectioned::Done(at) => latch_lines(s, at, 2 + input.len(), m, defined, latch, next),
+        Sectioned::Done(behind) => latch_lines(s, behind, m, defined, latch, next),
     }
 }
 
-// The output and gates, behind so many inputs and latches.
+// The output and gates.
 fn last_lines(
     s: &[u8],
-    from: usize,
+    from: Cursor,
     m: u16,
-    inputs: usize,
-    latches: usize,
     defined: &mut [u8],
     gate: &mut [u16],
     left: &mut [u16],
     right: &mut [u16],
 ) -> Bodied
-    requires { ⌜ LastRoom (now s) from m inputs latches (now defined) (now gate) (now left) (now right) ⌝ }
-    ensures { λ r. ⌜ LastAs (headerWith m inputs latches (length (now (gate .entry)))) (now (s .entry)) from (now (defined .entry)) (now (defined .exit)) (now (gate .exit)) (now (left .exit)) (now (right .exit)) r ⌝ }
+    requires { ⌜ LastRoom (now s) from m (now defined) (now gate) (now left) (now right) ⌝ }
+    ensures { λ r. ⌜ LastAs m (length (now (gate .entry))) (now (s .entry)) from (now (defined .entry)) (now (defined .exit)) (now (gate .exit)) (now (left .exit)) (now (right .exit)) r ⌝ }
 {
-    let end = line_end(s, from);
-    match output_line(&s[from..end], m) {
-        Lined::Fault(number) => refusal(number, 2 + inputs + latches),
+    let at = from.at;
+    let end = line_end(s, at);
+    match output_line(&s[at..end], m) {
+        Lined::Fault(number) => refusal(number, from.line),
         Lined::Row(output, _, _) => {
-            match gate_lines(s, end, 3 + inputs + latches, m, defined, gate, left, right) {
+            let line = from.line + 1;
+            let behind = Cursor { at: end, line };
+            match gate_lines(s, behind, m, defined, gate, left, right) {
                 Sectioned::Refused(r) => Bodied::Refused(r),
-                Sectioned::Done(at) => Bodied::Lines(at, output),
+                Sectioned::Done(last) => Bodied::Lines(last, output),
             }
         }
     }
@@ -287,7 +285,7 @@ fn last_lines(
 // All lines before the symbols; then whether what latches and output use is defined.
 pub(crate) fn body_lines(
     s: &[u8],
-    from: usize,
+    from: Cursor,
     m: u16,
     defined: &mut [u8],
     input: &mut [u16],
@@ -300,20 +298,10 @@ pub(crate) fn body_lines(
     requires { ⌜ BodyRoom (now s) from m (now defined) (now input) (now latch) (now next) (now gate) (now left) (now right) ⌝ }
     ensures { λ r. ⌜ BodiedAs (headerWith m (length (now (input .entry))) (length (now (latch .entry))) (length (now (gate .entry)))) (now (s .entry)) from (now (input .exit)) (now (latch .exit)) (now (next .exit)) (now (gate .exit)) (now (left .exit)) (now (right .exit)) r ⌝ }
 {
-    match first_lines(s, from, m, gate.len(), defined, input, latch, next) {
+    match first_lines(s, from, m, defined, input, latch, next) {
         Sectioned::Refused(r) => Bodied::Refused(r),
-        Sectioned::Done(at) => {
-            match last_lines(
-                s,
-                at,
-                m,
-                input.len(),
-                latch.len(),
-                defined,
-                gate,
-                left,
-                right,
-            ) {
+        Sectioned::Done(middle) => {
+            match last_lines(s, middle, m, defined, gate, left, right) {
                 Bodied::Refused(r) => Bodied::Refused(r),
                 Bodied::Lines(behind, output) => used_lines(
                     next,
@@ -328,7 +316,7 @@ pub(crate) fn body_lines(
 }
 
 // Whether what latches and output use is defined.
-fn used_lines(next: &[u16], defined: &[u8], inputs: usize, behind: usize, output: u16) -> Bodied
+fn used_lines(next: &[u16], defined: &[u8], inputs: usize, behind: Cursor, output: u16) -> Bodied
     requires { ⌜ (inputs ≤ base .inputs) × (length (now next) ≤ base .latches) ⌝ }
     ensures { λ r. ⌜ UsedLines (now (defined .entry)) (now (next .entry)) inputs behind output r ⌝ }
 {

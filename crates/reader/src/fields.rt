@@ -2,7 +2,6 @@
 use crate::number::Num;
 use crate::number::number_at;
 ghost use Prim.Native.Nat.{_<_};
-ghost use mathlib.Core.Path.{_≡_};
 ghost use Rattle.reader.specs.NumberAt.{FieldAt};
 ghost use Rattle.reader.specs.RowAt.{RowAt};
 

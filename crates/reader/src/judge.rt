@@ -1,8 +1,8 @@
 // What the literals of a line call for (01, "The file", rules 3 and 4; "The numbers", 5 to 7).
-ghost use Prim.Native.Nat.{ℕ, _≤_, _<_, _+_, _*_};
+ghost use Prim.Native.Nat.{_<_, _+_, _*_};
 ghost use mathlib.Core.Bool.{_||_};
 ghost use mathlib.Core.Path.{_≡_};
-ghost use Rattle.circuit.specs.Literal.{mayDefine, tooLarge, constant};
+ghost use Rattle.circuit.specs.Literal.{tooLarge};
 ghost use Rattle.reader.specs.Marks.{marked, unmarked, numberOr};
 ghost use Rattle.text.specs.Rules.{firstOf, badOwn};
 

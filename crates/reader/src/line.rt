@@ -1,8 +1,14 @@
-// Lines (01, "The file"): where a line ends.
+// Lines (01, "The file"): where a line starts and where it ends.
 ghost use mathlib.Core.Path.{_≡_};
 ghost use Prim.Native.Nat.{_+_};
 ghost use lib.ListN.{length, drop};
 ghost use Rattle.text.specs.Line.{firstLine};
+
+// Where the reading stands: the byte at which the next line starts, and that line's number.
+pub struct Cursor {
+    pub at: usize,
+    pub line: usize,
+}
 
 // Where the line that starts at a place ends: behind its byte 10, or at the end of the file.
 pub(crate) fn line_end(s: &[u8], at: usize) -> usize

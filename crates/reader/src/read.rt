@@ -4,6 +4,7 @@ use crate::body::Sectioned;
 use crate::body::body_lines;
 use crate::fields::Row;
 use crate::fields::five_at;
+use crate::line::Cursor;
 use crate::line::line_end;
 use crate::symbols::starts_with;
 use crate::symbols::symbol_lines;
@@ -12,17 +13,18 @@ use circuit::FileRead;
 use circuit::Read;
 use circuit::Refusal;
 use circuit::counts::controllable_count;
+use circuit::counts::too_many;
+use circuit::counts::uncontrollable_count;
 ghost use Prim.Native.Nat.{_+_, _≤_};
 ghost use mathlib.Core.List.{[], _∷_};
 ghost use mathlib.Core.Path.{_≡_};
 ghost use lib.ListN.{length};
 ghost use Rattle.below.specs.Table.{table};
 ghost use Rattle.circuit.specs.Answer.{ReadAs};
-ghost use Rattle.circuit.specs.Circuit.{tooMany};
 ghost use Rattle.circuit.specs.Limits.{base};
-ghost use Rattle.circuit.specs.Stored.{stored, emptyCircuit, inputsOf};
+ghost use Rattle.circuit.specs.Stored.{stored, emptyCircuit};
 ghost use Rattle.reader.specs.BodyRead.{headerWith};
-ghost use Rattle.reader.specs.CountedAs.{withInputs, CountedAs};
+ghost use Rattle.reader.specs.CountedAs.{CountedAs};
 ghost use Rattle.text.specs.Header.{withinLimits, headerOf};
 ghost use Rattle.reader.specs.LinesAs.{LinesRoom, LinesAs, HeaderAs};
 ghost use Rattle.text.specs.Read.{circuitRead};
@@ -45,35 +47,26 @@ fn no_names() -> [u8; Circuit::NAMES]
 // The symbols, behind the other lines.
 fn name_lines(
     s: &[u8],
-    at: usize,
+    from: Cursor,
     output: u16,
-    gates: usize,
     latches: usize,
     inputs: usize,
     flags: &mut [u8],
 ) -> Bodied
-    requires { ⌜ NameRoom (now s) at inputs latches gates (now flags) ⌝ }
-    ensures { λ r. ⌜ NamedAs inputs latches gates (now (s .entry)) at output (now (flags .exit)) r ⌝ }
+    requires { ⌜ NameRoom (now s) from inputs latches (now flags) ⌝ }
+    ensures { λ r. ⌜ NamedAs inputs latches (now (s .entry)) from output (now (flags .exit)) r ⌝ }
 {
     let mut named = no_names();
-    match symbol_lines(
-        s,
-        at,
-        3 + inputs + latches + gates,
-        inputs,
-        latches,
-        &mut named,
-        flags,
-    ) {
+    match symbol_lines(s, from, inputs, latches, &mut named, flags) {
         Sectioned::Refused(r) => Bodied::Refused(r),
-        Sectioned::Done(_) => Bodied::Lines(at, output),
+        Sectioned::Done(behind) => Bodied::Lines(behind, output),
     }
 }
 
 // All lines behind the header.
 fn text_lines(
     s: &[u8],
-    from: usize,
+    from: Cursor,
     m: u16,
     input: &mut [u16],
     flags: &mut [u8],
@@ -100,11 +93,10 @@ fn text_lines(
         right,
     ) {
         Bodied::Refused(r) => Bodied::Refused(r),
-        Bodied::Lines(at, output) => name_lines(
+        Bodied::Lines(behind, output) => name_lines(
             s,
-            at,
+            behind,
             output,
-            gate.len(),
             latch.len(),
             input.len(),
             flags,
@@ -164,17 +156,6 @@ fn refused(number: u8, place: usize) -> FileRead
     }
 }
 
-// More than 5 uncontrollable or 8 controllable inputs.
-fn too_many<'a>(input: &'a [u16], flags: &'a [u8]) -> bool
-    ensures { λ r. ⌜ r ≡ tooMany base (withInputs (inputsOf (now (input .entry)) (now (flags .entry)))) ⌝ }
-{
-    let n = controllable_count(input, flags);
-    if Circuit::CONTROLLABLE < n {
-        return true;
-    }
-    Circuit::UNCONTROLLABLE < input.len() - n
-}
-
 // A circuit that was read, if it hasn't too many inputs of a sort.
 fn counted(circuit: Circuit, inputs: usize) -> FileRead
     requires { ⌜ inputs ≤ base .inputs ⌝ }
@@ -182,7 +163,11 @@ fn counted(circuit: Circuit, inputs: usize) -> FileRead
 {
     let input = circuit.input;
     let flags = circuit.controllable;
-    if too_many(&input[..inputs], &flags[..inputs]) {
+    let own = &input[..inputs];
+    let marked = &flags[..inputs];
+    let u = uncontrollable_count(own, marked);
+    let k = controllable_count(own, marked);
+    if too_many(u, k) {
         return refused(9, 0);
     }
     FileRead {
@@ -194,7 +179,7 @@ fn counted(circuit: Circuit, inputs: usize) -> FileRead
 // The lines behind a header within the limits, and the circuit that they make.
 fn read_lines(
     s: &[u8],
-    from: usize,
+    from: Cursor,
     m: u16,
     inputs: usize,
     latches: usize,
@@ -287,7 +272,7 @@ pub fn read(file: &[u8]) -> FileRead
     if within(m, inputs, latches, outputs, gates) {
         return read_lines(
             file,
-            end,
+            Cursor { at: end, line: 2 },
             m as u16,
             inputs as usize,
             latches as usize,

@@ -1,12 +1,13 @@
 // Symbol lines and the comment (01, "The file", rules 5 and 6).
 use crate::body::Sectioned;
 use crate::judge::is_unknown;
+use crate::line::Cursor;
 use crate::line::line_end;
 use crate::number::Num;
 use crate::number::number_at;
 use circuit::Circuit;
 use circuit::Refusal;
-ghost use Prim.Native.Nat.{_+_, _^_, _≤_, _<_};
+ghost use Prim.Native.Nat.{_+_, _^_, _<_};
 ghost use mathlib.Core.Path.{_≡_};
 ghost use mathlib.Core.Bool.{cond, _&&_};
 ghost use lib.Dec.{eqb};
@@ -127,7 +128,7 @@ fn positions_of(letter: u8, inputs: usize, latches: usize) -> usize
         return latches;
     }
     if letter == 111 {
-        return 1;
+        return Circuit::OUTPUTS;
     }
     0
 }
@@ -228,28 +229,27 @@ fn symbol_line(line: &[u8], inputs: usize, latches: usize, named: &[u8]) -> Symb
 // The symbol lines up to the comment or the end of the file. Marks what is named, and flags each input that is controllable.
 pub(crate) fn symbol_lines(
     s: &[u8],
-    from: usize,
-    place: usize,
+    from: Cursor,
     inputs: usize,
     latches: usize,
     named: &mut [u8],
     flags: &mut [u8],
 ) -> Sectioned
-    requires { ⌜ SymbolRoom (now s) from place inputs latches (now named) (now flags) ⌝ }
-    ensures { λ r. ⌜ SymbolsAs inputs latches place (now (s .entry)) from (now (flags .exit)) r ⌝ }
+    requires { ⌜ SymbolRoom (now s) from inputs latches (now named) (now flags) ⌝ }
+    ensures { λ r. ⌜ SymbolsAs inputs latches (now (s .entry)) from (now (flags .exit)) r ⌝ }
 {
-    let mut at = from;
-    let mut i = 0;
-    while at < s.len() {
+    let mut here = from;
+    while here.at < s.len() {
+        let at = here.at;
         let end = line_end(s, at);
         match symbol_line(&s[at..end], inputs, latches, named) {
             Symboled::Comment => {
-                return Sectioned::Done(at);
+                return Sectioned::Done(here);
             }
             Symboled::Bad => {
                 return Sectioned::Refused(Refusal {
                     number: 8,
-                    place: place + i,
+                    place: here.line,
                 });
             }
             Symboled::Of(slot, position, flag) => {
@@ -257,8 +257,8 @@ pub(crate) fn symbol_lines(
                 set_if(flag, flags, position);
             }
         }
-        at = end;
-        i += 1;
+        here.at = end;
+        here.line += 1;
     }
-    Sectioned::Done(at)
+    Sectioned::Done(here)
 }

@@ -9,3 +9,4 @@ pub mod Rows
 pub mod Lengths
 pub mod ReadBack
 pub mod WrittenShape
+pub mod Passed

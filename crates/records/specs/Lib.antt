@@ -6,3 +6,4 @@ pub mod Tables
 pub mod RecordAt
 pub mod CircuitRecord
 pub mod Shape
+pub mod Passed

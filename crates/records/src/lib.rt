@@ -1,5 +1,6 @@
 // The records of a certificate (01, "The certificate") and what their bytes mean: definitions (specs/) and laws (proofs/laws/).
-// A certificate's shape and its first record; then what the tables store.
+// A certificate's shape and its first record; what the tables store; and how a passed certificate is read.
+pub mod passed;
 pub mod record;
 pub mod stored;
 pub mod tables;

@@ -1,10 +1,17 @@
-// The step rules of a certificate (01, "The certificate", what passes), one step at a time, over lent arrays: whether a control keeps the
-// play in the stored region, or out of the states of stored rank 1 to a bound. Shared with no solver.
+// The step rules of a certificate (01, "The certificate", what passes), over lent arrays: whether a control keeps the play in the stored
+// region, and whether none keeps it out of the states of stored rank 1 to a bound. Shared with no solver.
+mod lane;
+
+use circuit::Circuit;
+use lane::some_keeps;
 use records::stored::holds_state;
-use records::stored::stored_rank;
 use step::Control;
 use step::Reading;
+ghost use Prim.Native.Nat.{_^_, min};
+ghost use mathlib.Core.Bool.{not};
 ghost use mathlib.Core.Path.{_≡_};
+ghost use Rattle.below.specs.Least.{any};
+ghost use Rattle.circuit.specs.Limits.{base};
 ghost use Rattle.circuit.specs.Stored.{lent};
 ghost use Rattle.game.specs.CircuitGame.{circuitGame};
 ghost use Rattle.game.specs.Keeps.{keeps};
@@ -50,8 +57,9 @@ pub fn keeps_region<'a>(
     }
 }
 
-// Whether it gives error 0 and a next state that isn't of stored rank 1 to a bound.
-pub fn keeps_unranked<'a>(
+// Whether under a reading each control, of so many, gives error 1 or a next state of stored rank 1 to a bound: none keeps. A block of 64
+// at a time.
+pub fn defeats<'a>(
     input: &'a [u16],
     controllable: &'a [u8],
     latch: &'a [u16],
@@ -62,39 +70,35 @@ pub fn keeps_unranked<'a>(
     right: &'a [u16],
     table: &'a [u8],
     latches: usize,
+    controls: usize,
     bound: u16,
     state: u16,
     reading: u8,
-    control: u8,
 ) -> bool
-    ensures { λ r. ⌜ r ≡ keeps (circuitGame (lent 0 (now (input .entry)) (now (controllable .entry)) (now (latch .entry)) (now (next .entry)) output (now (gate .entry)) (now (left .entry)) (now (right .entry)))) (notRanked (storedRank (now (table .entry)) latches) bound) state reading control ⌝ }
+    ensures { λ r. ⌜ r ≡ not (any (keeps (circuitGame (lent 0 (now (input .entry)) (now (controllable .entry)) (now (latch .entry)) (now (next .entry)) output (now (gate .entry)) (now (left .entry)) (now (right .entry)))) (notRanked (storedRank (now (table .entry)) latches) bound) state reading) (min controls (2 ^ base .controllable))) ⌝ }
 {
-    let after = step::step_lent(
-        input,
-        controllable,
-        latch,
-        next,
-        output,
-        gate,
-        left,
-        right,
-        state,
-        Reading(reading),
-        Control(control),
-    );
-    if after.error {
-        return false;
+    let n = below::fewer(controls, Circuit::CONTROLS);
+    let mut block = 0;
+    while block * 64 < n {
+        let t = lanes::step_block(
+            input,
+            controllable,
+            latch,
+            next,
+            output,
+            gate,
+            left,
+            right,
+            state,
+            Reading(reading),
+            block,
+        );
+        let words = t.next;
+        let end = below::fewer(64, n - block * 64);
+        if some_keeps(t.error, &words, table, latches, bound, end) {
+            return false;
+        }
+        block += 1;
     }
-    is_unranked(table, latches, bound, after.next as usize)
-}
-
-// Whether a state isn't of stored rank 1 to a bound.
-fn is_unranked(table: &[u8], latches: usize, bound: u16, state: usize) -> bool
-    ensures { λ r. ⌜ r ≡ notRanked (storedRank (now (table .entry)) latches) bound state ⌝ }
-{
-    let rank = stored_rank(table, latches, state);
-    if rank < 1 {
-        return true;
-    }
-    bound < rank
+    true
 }

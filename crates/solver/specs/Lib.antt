@@ -1,2 +1,4 @@
 pub mod RankTable
 pub mod Over
+pub mod AllKept
+pub mod RegionTable

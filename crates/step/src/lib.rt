@@ -1,5 +1,9 @@
 // The step of a circuit (01, "The game").
 use circuit::Circuit;
+use circuit::stored::is_controllable;
+use circuit::stored::latches_of;
+use circuit::stored::literal;
+use circuit::stored::literal_at;
 ghost use Prim.Native.Nat.{_<_, _/_, min};
 ghost use mathlib.Core.Bool.{cond, false, not, _&&_};
 ghost use mathlib.Core.Path.{_≡_};
@@ -200,12 +204,6 @@ fn put_latches<'a>(values: &mut [u8], latch: &'a [u16], next: &'a [u16], state: 
     }
 }
 
-fn latches_of(n: usize) -> usize
-    ensures { λ r. ⌜ r ≡ min n (base .latches) ⌝ }
-{
-    below::fewer(n, Circuit::LATCHES)
-}
-
 fn put_gates<'a>(values: &mut [u8], gate: &'a [u16], left: &'a [u16], right: &'a [u16])
     requires { ⌜ base .variable < length (now values) ⌝ }
     ensures { λ _. ⌜ truths (now (values .exit)) ≡ withGates (gatesOf (now (gate .entry)) (now (left .entry)) (now (right .entry))) (truths (now (values .entry))) ⌝ }
@@ -266,37 +264,6 @@ fn truth_at(values: &[u8], v: usize) -> bool
 {
     if v < values.len() {
         values[v] == 1
-    } else {
-        false
-    }
-}
-
-// A literal of a circuit: one that is too large counts as 0.
-fn literal(l: u16) -> u16
-    ensures { λ r. ⌜ r ≡ literalOf l ⌝ }
-{
-    if (l as usize) < 2 * Circuit::VALUES {
-        l
-    } else {
-        0
-    }
-}
-
-fn literal_at(literals: &[u16], i: usize) -> u16
-    ensures { λ r. ⌜ r ≡ literalOf (getD (now (literals .entry)) i 0) ⌝ }
-{
-    if i < literals.len() {
-        literal(literals[i])
-    } else {
-        0
-    }
-}
-
-fn is_controllable(controllable: &[u8], i: usize) -> bool
-    ensures { λ r. ⌜ r ≡ not (eqb (getD (now (controllable .entry)) i 0) 0) ⌝ }
-{
-    if i < controllable.len() {
-        controllable[i] != 0
     } else {
         false
     }

@@ -6,8 +6,16 @@ pub mod Rules
 pub mod Section
 pub mod Symbol
 pub mod TextFile
+pub mod Stages
 pub mod Read
 pub mod Written
 pub mod InList
 pub mod WellFormed
 pub mod Printed
+pub mod Headed
+pub mod Within
+pub mod Broken
+pub mod Unknown
+pub mod NoSymbol
+pub mod BodyBroken
+pub mod Row

@@ -1,7 +1,7 @@
 -- The result of reading any list of bytes (01, "The numbers": 1, 2, 3; lines in file order; late 7; symbols; 9). Assumes nothing.
-use Prim.Native.Nat.{ℕ, _+_}
+use Prim.Native.Nat.{ℕ}
 use mathlib.Core.Bool.{not}
-use mathlib.Core.List.{List, [], _∷_, _++_, map}
+use mathlib.Core.List.{List, [], map}
 use mathlib.Core.Option.{Option, none, some}
 use lib.Dec.{ltb}
 use lib.ListN.{length, getD, drop}
@@ -11,9 +11,7 @@ use Rattle.circuit.specs.Outcome.{Outcome, taken, refused, _>>=_, _>>_, refuseI
 use Rattle.text.specs.Header.{Header, headerNumbers, headerOf, withinLimits}
 use Rattle.text.specs.Line.{lines}
 use Rattle.text.specs.Numbers.{fileTooLong, badHeader, headerLimit, tooManyInputs}
-use Rattle.text.specs.Rules.{inputRule, latchRule, outputRule, gateRule}
-use Rattle.text.specs.Section.{Body, section, onward, used}
-use Rattle.text.specs.Symbol.{symbolLines}
+use Rattle.text.specs.Stages.{inputSection, latchSection, outputSection, gateSection, lateStage, symbolStage}
 use Rattle.text.specs.TextFile.{TextFile, circuitOf}
 
 unfoldable pub latchOf : List ℕ → Latch
@@ -30,12 +28,12 @@ orBadHeader (some fs) = taken (headerOf fs)
 -- the lines behind the header
 unfoldable pub linesRead : Header → List (List ℕ) → Outcome TextFile
 linesRead h rest = do
-  inputs ← section (inputRule (h .largest)) (h .inputs) 2 (record { rows = []; defined = []; rest = rest })
-  latches ← section (latchRule (h .largest)) (h .latches) (2 + h .inputs) (onward inputs)
-  output ← section (outputRule (h .largest)) 1 (2 + h .inputs + h .latches) (onward latches)
-  gates ← section (gateRule (h .largest)) (h .gates) (3 + h .inputs + h .latches) (onward output)
-  used (gates .defined) (2 + h .inputs) (map (λ fs. getD fs 1 0) (latches .rows) ++ map (λ fs. getD fs 0 0) (output .rows))
-  behind ← symbolLines h (3 + h .inputs + h .latches + h .gates) [] (gates .rest)
+  inputs ← inputSection h rest
+  latches ← latchSection h inputs
+  output ← outputSection h latches
+  gates ← gateSection h output
+  lateStage h latches output gates
+  behind ← symbolStage h gates
   taken (record {
     largest = h .largest;
     inputs = map (λ fs. getD fs 0 0) (inputs .rows);

@@ -1,7 +1,6 @@
 // The listing of a circuit, put together on one page and written at once. Every writer here takes the place where its bytes go and
 // answers the place behind them.
 use circuit::Circuit;
-use libc::STDOUT_FILENO;
 
 // Above the longest listing: per state its number, in or out, and a reply of at most three digits for each reading, with what parts them.
 const PAGE: usize = Circuit::REPLIES * 4 + Circuit::STATES * 8 + 64;
@@ -95,7 +94,7 @@ fn print_lent<'a>(
             states,
             ranks,
         );
-        write_front(page, end);
+        desk::print_front(page, end);
     } else {
         let end = put_ranks(
             page,
@@ -113,7 +112,7 @@ fn print_lent<'a>(
             states,
             ranks,
         );
-        write_front(page, end);
+        desk::print_front(page, end);
     }
 }
 
@@ -125,13 +124,6 @@ fn numbers(n: usize) -> u16 {
 // How many readings there are.
 fn readings(u: usize) -> u8 {
     1 << below::fewer(u, Circuit::UNCONTROLLABLE)
-}
-
-fn write_front(page: &[u8], end: usize) {
-    let n = below::fewer(end, page.len());
-    if !io::write_all(STDOUT_FILENO, &page[..n]) {
-        os::fail(b"standard output");
-    }
 }
 
 // The verdict, L, U and C, at the front.

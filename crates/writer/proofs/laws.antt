@@ -1,4 +1,3 @@
-pub mod RegionByte
 pub mod Turns
 pub mod Tables
 pub mod Length
@@ -10,6 +9,7 @@ pub mod AnyLargest
 pub mod Within
 pub mod RulesKept
 pub mod Passes
+pub mod OwnCertificate
 pub mod Decided
 pub mod Longest
 pub mod Front

@@ -15,7 +15,8 @@ ghost use Rattle.circuit.specs.Limits.{base};
 ghost use Rattle.circuit.specs.Stored.{lent};
 ghost use Rattle.moves.specs.Played.{played, ranksIn};
 ghost use Rattle.solver.specs.Over.{rankZero, replyOver, attackOver};
-ghost use Rattle.writer.specs.Rows.{regionByte, attackRow};
+ghost use Rattle.solver.specs.RegionTable.{regionByte};
+ghost use Rattle.writer.specs.Rows.{attackRow};
 
 // The length and the kind, little-endian.
 pub(crate) fn put_head(out: &mut [u8], at: usize, kind: u16, length: usize) -> usize
@@ -39,44 +40,9 @@ pub(crate) fn put_region(out: &mut [u8], at: usize, ranks: &[u16], states: usize
     requires { ⌜ states ≤ 2 ^ base .latches ⌝ }
     ensures { λ r. ⌜ Wrote (table (regionByte (rankZero (now (ranks .entry))) states) ((states + 7) / 8)) at (now (out .entry)) (now (out .exit)) r ⌝ }
 {
+    let region = solver::region::region_of(ranks, states);
     let n = (states + 7) / 8;
-    let mut behind = at;
-    let mut j = 0;
-    while j < n {
-        let byte = [region_byte(ranks, states, j)];
-        behind += put_bytes(out, behind, &byte);
-        j += 1;
-    }
-    behind
-}
-
-// Eight states, the first at the lowest bit.
-fn region_byte(ranks: &[u16], states: usize, j: usize) -> u8
-    requires { ⌜ j < 2 ^ 32 ⌝ }
-    ensures { λ r. ⌜ r ≡ regionByte (rankZero (now (ranks .entry))) states j ⌝ }
-{
-    let s = 8 * j;
-    let b7 = region_bit(ranks, states, s + 7);
-    let b6 = region_bit(ranks, states, s + 6) + 2 * b7;
-    let b5 = region_bit(ranks, states, s + 5) + 2 * b6;
-    let b4 = region_bit(ranks, states, s + 4) + 2 * b5;
-    let b3 = region_bit(ranks, states, s + 3) + 2 * b4;
-    let b2 = region_bit(ranks, states, s + 2) + 2 * b3;
-    let b1 = region_bit(ranks, states, s + 1) + 2 * b2;
-    region_bit(ranks, states, s) + 2 * b1
-}
-
-// 1 for a state of rank 0, else 0; behind the last state 0.
-fn region_bit(ranks: &[u16], states: usize, s: usize) -> u8
-    ensures { λ r. ⌜ r ≡ oneIf (ltb s states && rankZero (now (ranks .entry)) s) ⌝ }
-    ensures { λ r. ⌜ r ≤ 1 ⌝ }
-{
-    if s < states {
-        if moves::rank_at(ranks, s) == 0 {
-            return 1;
-        }
-    }
-    0
+    at + put_bytes(out, at, &region[..n])
 }
 
 // The replies, a byte each, at s × 2^U + reading.

@@ -1,10 +1,13 @@
 //! Document 01, "The numbers" and "The game": how often each outcome turns up
 //! among files or among certificates.
 
+mod departures;
+
 use crate::certificate::checker::check;
 use crate::certificate::writer::certificate;
 use crate::game::solve;
 use crate::reader::read;
+use departures::departures;
 use std::collections::BTreeMap;
 
 /// Outcomes with how often each turned up.
@@ -16,6 +19,7 @@ pub struct Count {
     with_a_rank_above_2: usize,
     ours: usize,
     not_ours: usize,
+    departures: [usize; departures::NAMES.len()],
     numbers: BTreeMap<u8, usize>,
 }
 
@@ -35,14 +39,18 @@ impl Count {
     }
 
     pub fn pair(&mut self, file: &[u8], bytes: &[u8]) {
-        if let Err(refusal) = check(file, bytes) {
-            return self.number(refusal.number);
-        }
-        let written = read(file).map(|circuit| certificate(file, &solve(&circuit)));
-        if written.is_ok_and(|written| written == bytes) {
+        let (circuit, passed) = match (read(file), check(file, bytes)) {
+            (Ok(circuit), Ok(passed)) => (circuit, passed),
+            (Err(refusal), _) | (_, Err(refusal)) => return self.number(refusal.number),
+        };
+        let game = solve(&circuit);
+        if certificate(file, &game) == bytes {
             self.ours += 1;
-        } else {
-            self.not_ours += 1;
+            return;
+        }
+        self.not_ours += 1;
+        for (count, departs) in self.departures.iter_mut().zip(departures(&game, &passed)) {
+            *count += usize::from(departs);
         }
     }
 
@@ -69,6 +77,9 @@ impl Count {
             "passed as the writer writes it {}\npassed and other than the writer's {}\n",
             self.ours, self.not_ours
         );
+        for (name, count) in departures::NAMES.iter().zip(self.departures) {
+            text.push_str(&format!("passed with {name} {count}\n"));
+        }
         let circuit_numbers: usize = (1..=9).map(|number| self.of_number(number)).sum();
         text.push_str(&format!("refused 1 to 9 {circuit_numbers}\n"));
         self.add_numbers(&mut text, &[11, 12, 13, 14, 15]);

@@ -60,6 +60,11 @@ pub fn file(seed: u64, index: usize) -> Vec<u8> {
     }
 }
 
+/// The well-formed file at the limits of this index.
+pub fn full(seed: u64, index: usize) -> Vec<u8> {
+    wanted::full(&mut Random::of(seed, index as u64)).bytes()
+}
+
 /// The shares are spread over each hundred of files.
 fn kind(index: usize) -> Kind {
     let mut place = index % 100 * 37 % 100;

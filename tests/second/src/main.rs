@@ -15,7 +15,7 @@ use std::process::ExitCode;
 
 const USAGE: &str = "usage: second listing FILE.. | read FILE.. | print FILE.. | \
 verify FILE CERT .. | certify FILE OUT | generate SEED COUNT DIR | \
-generate-certificates SEED COUNT DIR | count DIR | count-certificates DIR";
+generate-full SEED COUNT DIR | generate-certificates SEED COUNT DIR | count DIR | count-certificates DIR";
 
 /// What went wrong, as one line for standard error.
 type Trouble = String;
@@ -43,7 +43,10 @@ fn run(arguments: &[PathBuf]) -> Result<(), Trouble> {
         }
         ("certify", [file, out]) => certify(file, out),
         ("generate", [seed, count, directory]) => {
-            generate(number(seed)?, number(count)?, directory)
+            generate(number(seed)?, number(count)?, directory, damage::file)
+        }
+        ("generate-full", [seed, count, directory]) => {
+            generate(number(seed)?, number(count)?, directory, damage::full)
         }
         ("generate-certificates", [seed, count, directory]) => {
             generate_certificates(number(seed)?, number(count)?, directory)
@@ -111,11 +114,16 @@ fn certify(file: &Path, out: &Path) -> Result<(), Trouble> {
     }
 }
 
-fn generate(seed: u64, count: u64, directory: &Path) -> Result<(), Trouble> {
+fn generate(
+    seed: u64,
+    count: u64,
+    directory: &Path,
+    file: impl Fn(u64, usize) -> Vec<u8>,
+) -> Result<(), Trouble> {
     make(directory)?;
     for index in 0..count as usize {
         let name = format!("{index:04}.aag");
-        put(&directory.join(name), &damage::file(seed, index))?;
+        put(&directory.join(name), &file(seed, index))?;
     }
     Ok(())
 }

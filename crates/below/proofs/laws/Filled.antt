@@ -44,3 +44,7 @@ replicate-table n a = ext-getD 0 (replicate n a) (table (λ s. a) n) (length-rep
   where
     within : (j : ℕ) → j < length (replicate n a) → j < n
     within j h = omega (arith, length-replicate n a)
+
+-- a list that is filled to its end
+pub filled-whole : (f : ℕ → ℕ) (before : List ℕ) (n i : ℕ) (after : List ℕ) → Filled f before i after → length before ≡ n → n ≤ i → after ≡ table f n
+filled-whole f before n i after filled long h = ext-getD 0 after (table f n) (filled .long ∙ long ∙ sym (length-table f n)) (λ j l. filled .front j (omega (arith, filled .long)) ∙ sym (getD-table f n j 0 (omega (arith, filled .long))))

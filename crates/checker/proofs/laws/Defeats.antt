@@ -1,25 +1,25 @@
--- A search through the controls under a reading: one that keeps out of the ranks means no defeat, none means defeat. Assumes nothing.
-use Prim.Native.Nat.{ℕ, _^_, _<_}
-use mathlib.Core.Bool.{true, false, not}
-use mathlib.Core.Path.{_≡_, sym, ap, _∙_}
+-- A reading defeats if none of all controls keeps out of the ranks: so many as a circuit may have at most. Assumes nothing.
+use Prim.Native.Nat.{ℕ, _^_, min}
+use native.Mathlib.Omega.{arith}
+use mathlib.Core.Bool.{Bool, not}
+use mathlib.Core.Path.{_≡_, ap, _∙_}
+use lib.Pow.{pow-mono}
 use Rattle.below.specs.Least.{any}
-use Rattle.below.proofs.laws.Least.{any-of, none-any}
-use Rattle.circuit.specs.Circuit.{Circuit, controllableCount}
+use Rattle.circuit.specs.Circuit.{Circuit}
+use Rattle.circuit.specs.Limits.{base}
 use Rattle.game.specs.CircuitGame.{circuitGame}
 use Rattle.game.specs.Keeps.{keeps, answered}
 use Rattle.game.specs.Rank.{notRanked, defeats}
+use Rattle.checker.specs.Counted.{Counted}
 
-module _ (c : Circuit) (C : ℕ) (controls : C ≡ controllableCount c) (ranks : ℕ → ℕ) (bound s r n : ℕ) (all : n ≡ 2 ^ C) where
-  count-is : n ≡ circuitGame c .controls
+module _ (c : Circuit) (L U C : ℕ) (counted : Counted c L U C) (n : ℕ) (all : n ≡ 2 ^ C) where
+  controls-are : min n (2 ^ base .controllable) ≡ circuitGame c .controls
   unfolding circuitGame
-  count-is = all ∙ ap (λ (m : ℕ). 2 ^ m) controls
+  controls-are = few ∙ all ∙ ap (λ (m : ℕ). 2 ^ m) (counted .controls)
+    where
+      few : min n (2 ^ base .controllable) ≡ n
+      few = omega (arith, pow-mono {i = C} {j = base .controllable} (counted .fewControls))
 
-  defeats-is : not (any (keeps (circuitGame c) (notRanked ranks bound) s r) n) ≡ defeats (circuitGame c) ranks bound s r
+  pub none-defeats : (ranks : ℕ → ℕ) (bound s r : ℕ) (b : Bool) → b ≡ not (any (keeps (circuitGame c) (notRanked ranks bound) s r) (min n (2 ^ base .controllable))) → b ≡ defeats (circuitGame c) ranks bound s r
   unfolding defeats answered
-  defeats-is = ap (λ (m : ℕ). not (any (keeps (circuitGame c) (notRanked ranks bound) s r) m)) count-is
-
-  pub kept-undefeated : (k : ℕ) → k < n → keeps (circuitGame c) (notRanked ranks bound) s r k ≡ true → false ≡ defeats (circuitGame c) ranks bound s r
-  kept-undefeated k h e = sym (ap not (any-of (keeps (circuitGame c) (notRanked ranks bound) s r) n k h e)) ∙ defeats-is
-
-  pub none-defeats : ((k : ℕ) → k < n → keeps (circuitGame c) (notRanked ranks bound) s r k ≡ false) → true ≡ defeats (circuitGame c) ranks bound s r
-  none-defeats h = sym (ap not (none-any (keeps (circuitGame c) (notRanked ranks bound) s r) n h)) ∙ defeats-is
+  none-defeats ranks bound s r b e = e ∙ ap (λ (m : ℕ). not (any (keeps (circuitGame c) (notRanked ranks bound) s r) m)) controls-are

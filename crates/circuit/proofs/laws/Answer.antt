@@ -3,7 +3,9 @@ use Prim.Native.Nat.{ℕ, _<_, _≤_}
 use native.Mathlib.Omega.{arith}
 use mathlib.Core.List.{List}
 use mathlib.Core.Path.{_≡_, refl, sym, ap, _∙_}
-use lib.ListN.{length}
+use lib.Dec.{ltb}
+use lib.ListN.{length, take, drop}
+use lib.Seq.{take-at}
 use borrow.Author.Tests.{lt-ltb, le-ltb}
 use Rattle.bits.specs.Wrote.{Wrote}
 use Rattle.bits.proofs.laws.Wrote.{sets-front}
@@ -15,6 +17,7 @@ use Rattle.circuit.specs.declared.Written.the-variants.{Bytes, Refused}
 use Rattle.circuit.specs.Answer.{readOutcome, ReadAs, writtenOutcome, noRoom, fitted, countOf, bufferAfter, WrittenAs}
 use Rattle.circuit.specs.Circuit.{Circuit}
 use Rattle.circuit.specs.Outcome.{Outcome, taken, refused, refuseIf}
+use Rattle.circuit.proofs.laws.Outcome.{refused-is-not-taken, passed-test}
 
 pub fitted-taken : (bytes : List ℕ) (room : ℕ) → length bytes ≤ room → fitted bytes room ≡ taken bytes
 unfolding fitted refuseIf
@@ -47,6 +50,26 @@ same-written (Refused r) (Refused s) e =
 -- the promise of a writer decides its answer and every byte of its buffer
 pub written-decided : (outcome : Outcome (List ℕ)) (before l m : List ℕ) (r s : Written) → WrittenAs outcome before l r → WrittenAs outcome before m s → (r ≡ s) × (l ≡ m)
 written-decided outcome before l m r s v w = (same-written r s (v .answer ∙ sym (w .answer)), v .bytes ∙ sym (w .bytes))
+
+-- a refusal writes nothing
+pub refused-writes-nothing : (outcome : Outcome (List ℕ)) (before after : List ℕ) (r : Written) (number place : ℕ) → WrittenAs outcome before after r → writtenOutcome r ≡ refused number place → after ≡ before
+unfolding countOf bufferAfter
+refused-writes-nothing (taken bytes) before after r number place w e = absurd (refused-is-not-taken number place (length bytes) (sym e ∙ w .answer))
+refused-writes-nothing (refused n p) before after r number place w e = w .bytes
+
+-- what is counted stands at the front
+pub counted-stands : (outcome : Outcome (List ℕ)) (before after : List ℕ) (r : Written) (n : ℕ) → WrittenAs outcome before after r → writtenOutcome r ≡ taken n → outcome ≡ taken (take n after)
+unfolding countOf bufferAfter
+counted-stands (taken bytes) before after r n w e =
+    let told : taken n ≡ taken (length bytes) = sym e ∙ w .answer in
+    let long : length bytes ≡ n = cc in
+    ap {B = Outcome (List ℕ)} taken (sym (ap (take n) (w .bytes) ∙ take-at bytes (drop (length bytes) before) n long))
+counted-stands (refused number place) before after r n w e = absurd (refused-is-not-taken number place n (sym (w .answer) ∙ e))
+
+-- what fits is written as it is
+pub fitted-is : (bytes out : List ℕ) (room : ℕ) → fitted bytes room ≡ taken out → bytes ≡ out
+unfolding fitted
+fitted-is bytes out room e = let told : taken bytes ≡ taken out = passed-test (ltb room (length bytes)) noRoom 0 (taken bytes) out e .1 in cc
 
 same-read : (r s : Read) → readOutcome r ≡ readOutcome s → r ≡ s
 unfolding readOutcome

@@ -5,7 +5,7 @@ use native.Mathlib.Decide.{decLt}
 use mathlib.Core.Bool.{Bool, true, false, not, _&&_, true≢false}
 use mathlib.Core.Path.{_≡_, refl, sym, ap, _∙_}
 use lib.Dec.{leb, ltb}
-use borrow.Author.Tests.{leb-true, leb-false, le-leb, lt-leb, not-false}
+use borrow.Author.Tests.{leb-true, leb-false, le-leb, lt-leb, lt-ltb, le-ltb, not-false}
 use Rattle.bits.proofs.laws.Bytes.{both-true}
 use Rattle.game.specs.Game.{Game, Proper}
 use Rattle.game.specs.Rank.{notRanked, defeats, defeated, ranksAfter, rank, inRegion, AreRanks}
@@ -34,6 +34,10 @@ unranked-above ranks k s h = rw (lt-leb (ranks s) k h) (ap not (and-false (leb 1
     and-false : (b : Bool) → (b && false) ≡ false
     and-false true = refl
     and-false false = refl
+
+-- a rank above 0 is above the bound, or the state is of rank 1 to the bound
+pub above-unranked : (ranks : ℕ → ℕ) (k s x : ℕ) → x ≡ ranks s → 1 ≤ x → ltb k x ≡ notRanked ranks k s
+above-unranked ranks k s x e h = elim (decLt k x) [ yes l ↦ lt-ltb k x l ∙ sym (unranked-above ranks k s (omega arith)) | no l ↦ le-ltb k x (omega arith) ∙ sym (is-ranked ranks k s (omega arith) (omega arith)) ]
 
 module _ (g : Game) where
   pub rank-at-most : (s : ℕ) → rank g s ≤ g .states

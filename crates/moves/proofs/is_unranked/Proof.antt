@@ -2,9 +2,8 @@
 use native.Mathlib.Omega.{arith}
 use mathlib.Core.Path.{sym}
 use borrow.Author.Needs.{needs}
-use Rattle.game.proofs.laws.Rank.{unranked-zero}
+use Rattle.game.proofs.laws.Rank.{unranked-zero, above-unranked}
 use Rattle.moves.specs.Played.{ranksIn}
-use Rattle.moves.proofs.laws.Played.{above-unranked}
 use Rattle.moves.proofs.is_unranked.Statement.{statement}
 use Rattle.moves.proofs.is_unranked.Tie as tie
 

@@ -1,34 +1,31 @@
 -- Sections one after the other, as the code takes them. Assumes nothing.
-use Prim.Native.Nat.{ℕ, zero, suc, _+_, _-_, _<_, _≤_}
+use Prim.Native.Nat.{ℕ, _+_, _-_, _<_, _≤_}
 use native.Mathlib.Omega.{arith}
-use native.Mathlib.Nat.{add-assoc}
 use mathlib.Core.Bool.{Bool, true, false}
 use mathlib.Core.List.{List, [], _∷_, _++_, map}
-use mathlib.Core.Option.{Option, none, some}
 use mathlib.Core.Path.{_≡_, refl, sym, ap, ap₂, _∙_, subst}
 use lib.ListN.{length, getD, take, drop}
-use lib.Dec.{eqb}
 use Rattle.below.specs.Among.{among, member}
 use Rattle.below.specs.Table.{table}
 use Rattle.below.proofs.laws.Table.{map-table, table-getD}
-use Rattle.circuit.specs.Outcome.{Outcome, taken, refused, _>>=_, _>>_, refuseIf}
+use Rattle.circuit.specs.Outcome.{taken, refused, _>>=_, _>>_, refuseIf}
 use Rattle.reader.specs.declared.body.Bodied.{Bodied}
 use Rattle.reader.specs.declared.body.Bodied.the-variants.{Lines, Refused}
 use Rattle.reader.specs.declared.body.Sectioned.{Sectioned}
 use Rattle.reader.specs.declared.body.Sectioned.the-variants.{Done, Refused as SectionRefused}
-use Rattle.reader.specs.BodyRead.{headerWith, First, firstRead, Last, lastRead, Bodies, bodyRead, FirstAt, FirstAs, LastAt, LastAs, BodyAt, BodiedAs}
-use Rattle.text.specs.Header.{Header}
+use Rattle.reader.specs.BodyRead.{headerWith, firstRead, lastRead, bodyRead, FirstAt, FirstAs, LastAt, LastAs, BodiedAs}
+use Rattle.reader.specs.declared.line.Cursor.{Cursor}
 use Rattle.text.specs.Line.{lines, firstLine, numbersOf}
 use Rattle.reader.specs.LinedAs.{LinedAs}
-use Rattle.reader.specs.declared.body.Lined.the-variants.{Row, Fault}
+use Rattle.reader.specs.declared.body.Lined.the-variants.{Fault}
 use Rattle.reader.specs.Marks.{Marks, unmarked}
 use Rattle.text.specs.Numbers.{notDefined}
 use Rattle.text.specs.Rules.{inputRule, latchRule, outputRule, gateRule, unknown}
-use Rattle.text.specs.Section.{Body, judged, withRow, section, onward, used}
+use Rattle.text.specs.Section.{judged, withRow, section, onward, used}
 use Rattle.reader.specs.SectionAs.{beginning, ReadTo, SectionAs, inputRow, latchRow, gateRow}
 use Rattle.reader.specs.UsedAs.{UsedAs, UsedLines}
 use Rattle.reader.proofs.laws.Judged.{unknown-unmarked}
-use Rattle.reader.proofs.laws.SectionLoop.{line-part, line-ends-within}
+use Rattle.reader.proofs.laws.SectionLoop.{line-part}
 use Rattle.reader.proofs.laws.Position.{lines-behind}
 use Rattle.reader.proofs.laws.UsedLoop.{used-append}
 use lib.Seq.{drop-drop}
@@ -38,72 +35,74 @@ pub marks-nothing : (marks : List ℕ) → ((i : ℕ) → getD marks i 0 ≡ 0) 
 unfolding Marks member among
 marks-nothing marks zeros v = rw (zeros v)
 
-module _ (m inputs latches gates : ℕ) (file : List ℕ) (at : ℕ) where
-  pub first-refused : (number place : ℕ) → section (inputRule m) inputs 2 (beginning file at []) ≡ refused number place → firstRead (headerWith m inputs latches gates) (beginning file at []) ≡ refused number place
-  unfolding firstRead headerWith
+module _ (m inputs latches : ℕ) (file : List ℕ) (from : Cursor) where
+  pub first-refused : (number place : ℕ) → section (inputRule m) inputs (from .line) (beginning file (from .at) []) ≡ refused number place → firstRead m inputs latches (from .line) (beginning file (from .at) []) ≡ refused number place
+  unfolding firstRead
   first-refused number place e = rw e
 
-  pub first-as : (before marks after input latch next : List ℕ) (behind : ℕ) → ReadTo (inputRule m) inputs 2 file at before marks (inputRow input) behind [] → (r : Sectioned) → SectionAs (latchRule m) latches (2 + inputs) file behind marks after (latchRow latch next) r → FirstAs (headerWith m inputs latches gates) file at after input latch next r
-  unfolding firstRead headerWith onward beginning
+  pub first-as : (before marks after input latch next : List ℕ) (behind : Cursor) → ReadTo (inputRule m) inputs file from before marks (inputRow input) behind [] → (r : Sectioned) → SectionAs (latchRule m) latches file behind marks after (latchRow latch next) r → FirstAs m inputs latches file from after input latch next r
+  unfolding firstRead onward beginning
   first-as before marks after input latch next behind w (Done end) h =
       let v = h (w .defines) (w .says) in
       record {
-        first = record { inputs = record { rows = table (inputRow input) inputs; defined = w .defines; rest = lines (drop behind file) }; latches = record { rows = table (latchRow latch next) latches; defined = v .defines; rest = lines (drop end file) } };
-        whole = rw (w .whole, v .whole);
+        first = record { inputs = record { rows = table (inputRow input) inputs; defined = w .defines; rest = lines (drop (behind .at) file) }; latches = record { rows = table (latchRow latch next) latches; defined = v .defines; rest = lines (drop (end .at) file) } };
+        whole = rw (w .whole, ← w .line, v .whole);
         inputs = refl;
         latches = refl;
         says = v .says;
         rest = refl;
         within = v .within;
+        line = v .line ∙ ap (λ (n : ℕ). n + latches) (w .line);
       }
-  first-as before marks after input latch next behind w (SectionRefused r) h = rw (w .whole, h (w .defines) (w .says))
+  first-as before marks after input latch next behind w (SectionRefused r) h = rw (w .whole, ← w .line, h (w .defines) (w .says))
 
 -- the output's line
-module _ (m inputs latches gates : ℕ) (file : List ℕ) (at end : ℕ) (ends : end ≡ at + length (firstLine (drop at file))) (within : at ≤ length file) (before : List ℕ) where
-  output-line : (defined : List ℕ) → section (outputRule m) 1 (2 + inputs + latches) (beginning file at defined) ≡ (judged (outputRule m) defined (2 + inputs + latches) (numbersOf (outputRule m .count) (take (end - at) (drop at file))) >>= λ fs. taken (withRow (outputRule m) (beginning file at defined) fs))
+module _ (m gates : ℕ) (file : List ℕ) (from : Cursor) (end : ℕ) (ends : end ≡ from .at + length (firstLine (drop (from .at) file))) (before : List ℕ) where
+  output-line : (defined : List ℕ) → section (outputRule m) 1 (from .line) (beginning file (from .at) defined) ≡ (judged (outputRule m) defined (from .line) (numbersOf (outputRule m .count) (take (end - from .at) (drop (from .at) file))) >>= λ fs. taken (withRow (outputRule m) (beginning file (from .at) defined) fs))
   unfolding section beginning firstLine
-  output-line defined = ap (λ (l : List ℕ). judged (outputRule m) defined (2 + inputs + latches) (numbersOf (outputRule m .count) l) >>= λ fs. taken (withRow (outputRule m) (beginning file at defined) fs)) (sym (line-part file at end ends))
+  output-line defined = ap (λ (l : List ℕ). judged (outputRule m) defined (from .line) (numbersOf (outputRule m .count) l) >>= λ fs. taken (withRow (outputRule m) (beginning file (from .at) defined) fs)) (sym (line-part file (from .at) end ends))
 
-  pub output-refused : (number : ℕ) → LinedAs (outputRule m) before (take (end - at) (drop at file)) (Fault number) → (after gate left right : List ℕ) → LastAs (headerWith m inputs latches gates) file at before after gate left right (Refused (record { number = number; place = 2 + inputs + latches }))
-  unfolding lastRead headerWith
-  output-refused number e after gate left right defined says = rw (output-line defined, e defined (2 + inputs + latches) says)
+  pub output-refused : (number : ℕ) → LinedAs (outputRule m) before (take (end - from .at) (drop (from .at) file)) (Fault number) → (after gate left right : List ℕ) → LastAs m gates file from before after gate left right (Refused (record { number = number; place = from .line }))
+  unfolding lastRead
+  output-refused number e after gate left right defined says = rw (output-line defined, e defined (from .line) says)
 
   -- the output taken: the gates go on from behind its line
-  output-taken : (literal : ℕ) → ((defined : List ℕ) (place : ℕ) → Marks before defined → judged (outputRule m) defined place (numbersOf (outputRule m .count) (take (end - at) (drop at file))) ≡ taken (literal ∷ [])) → (defined : List ℕ) → Marks before defined → section (outputRule m) 1 (2 + inputs + latches) (beginning file at defined) ≡ taken (record { rows = (literal ∷ []) ∷ []; defined = defined; rest = lines (drop end file) })
+  output-taken : (literal : ℕ) → ((defined : List ℕ) (place : ℕ) → Marks before defined → judged (outputRule m) defined place (numbersOf (outputRule m .count) (take (end - from .at) (drop (from .at) file))) ≡ taken (literal ∷ [])) → (defined : List ℕ) → Marks before defined → section (outputRule m) 1 (from .line) (beginning file (from .at) defined) ≡ taken (record { rows = (literal ∷ []) ∷ []; defined = defined; rest = lines (drop end file) })
   unfolding withRow beginning outputRule
-  output-taken literal e defined says = output-line defined ∙ rw (e defined (2 + inputs + latches) says) (ap taken body)
+  output-taken literal e defined says = output-line defined ∙ rw (e defined (from .line) says) (ap taken body)
     where
       append-nil : (l : List ℕ) → l ++ [] ≡ l
       append-nil [] = refl
       append-nil (x ∷ l) = ap {B = List ℕ} (λ k. x ∷ k) (append-nil l)
 
-      rest : drop 1 (lines (drop at file)) ≡ lines (drop end file)
-      rest = lines-behind (drop at file) ∙ ap lines (drop-drop (length (firstLine (drop at file))) at file ∙ ap (λ (k : ℕ). drop k file) (sym ends))
+      rest : drop 1 (lines (drop (from .at) file)) ≡ lines (drop end file)
+      rest = lines-behind (drop (from .at) file) ∙ ap lines (drop-drop (length (firstLine (drop (from .at) file))) (from .at) file ∙ ap (λ (k : ℕ). drop k file) (sym ends))
 
-      body : withRow (outputRule m) (beginning file at defined) (literal ∷ []) ≡ record { rows = (literal ∷ []) ∷ []; defined = defined; rest = lines (drop end file) }
+      body : withRow (outputRule m) (beginning file (from .at) defined) (literal ∷ []) ≡ record { rows = (literal ∷ []) ∷ []; defined = defined; rest = lines (drop end file) }
       body = λ x. record { rows = (literal ∷ []) ∷ []; defined = append-nil defined x; rest = rest x }
 
-  module _ (literal : ℕ) (fine : (defined : List ℕ) (place : ℕ) → Marks before defined → judged (outputRule m) defined place (numbersOf (outputRule m .count) (take (end - at) (drop at file))) ≡ taken (literal ∷ [])) (after gate left right : List ℕ) where
-    pub gates-refused : (number place : ℕ) → ((defined : List ℕ) → Marks before defined → section (gateRule m) gates (3 + inputs + latches) (beginning file end defined) ≡ refused number place) → (defined : List ℕ) → Marks before defined → lastRead (headerWith m inputs latches gates) (beginning file at defined) ≡ refused number place
-    unfolding lastRead headerWith onward beginning
+  module _ (literal : ℕ) (fine : (defined : List ℕ) (place : ℕ) → Marks before defined → judged (outputRule m) defined place (numbersOf (outputRule m .count) (take (end - from .at) (drop (from .at) file))) ≡ taken (literal ∷ [])) (after gate left right : List ℕ) where
+    pub gates-refused : (number place : ℕ) → ((defined : List ℕ) → Marks before defined → section (gateRule m) gates (from .line + 1) (beginning file end defined) ≡ refused number place) → (defined : List ℕ) → Marks before defined → lastRead m gates (from .line) (beginning file (from .at) defined) ≡ refused number place
+    unfolding lastRead onward beginning
     gates-refused number place e defined says = rw (output-taken literal fine defined says, e defined says)
 
-    pub gates-taken : (behind : ℕ) → ((defined : List ℕ) → Marks before defined → ReadTo (gateRule m) gates (3 + inputs + latches) file end before after (gateRow gate left right) behind defined) → (defined : List ℕ) → Marks before defined → LastAt (headerWith m inputs latches gates) file at after gate left right behind literal defined
-    unfolding lastRead headerWith onward beginning
+    pub gates-taken : (behind : Cursor) → ((defined : List ℕ) → Marks before defined → ReadTo (gateRule m) gates file (record { at = end; line = from .line + 1 }) before after (gateRow gate left right) behind defined) → (defined : List ℕ) → Marks before defined → LastAt m gates file from after gate left right behind literal defined
+    unfolding lastRead onward beginning
     gates-taken behind h defined says =
         let v = h defined says in
         record {
-          last = record { output = record { rows = (literal ∷ []) ∷ []; defined = defined; rest = lines (drop end file) }; gates = record { rows = table (gateRow gate left right) gates; defined = v .defines; rest = lines (drop behind file) } };
+          last = record { output = record { rows = (literal ∷ []) ∷ []; defined = defined; rest = lines (drop end file) }; gates = record { rows = table (gateRow gate left right) gates; defined = v .defines; rest = lines (drop (behind .at) file) } };
           whole = rw (output-taken literal fine defined says, v .whole);
           output = refl;
           gates = refl;
           says = v .says;
           rest = refl;
           within = v .within;
+          line = v .line;
         }
 
 -- what latches and output use
-module _ (marks next : List ℕ) (inputs behind literal : ℕ) where
+module _ (marks next : List ℕ) (inputs : ℕ) (behind : Cursor) (literal : ℕ) where
   pub next-unknown : (k : ℕ) → UsedAs marks next k → k < length next → UsedLines marks next inputs behind literal (Refused (record { number = notDefined; place = 2 + inputs + k }))
   next-unknown k w h defined says = used-append defined (2 + inputs) next (literal ∷ []) ∙ rw (w .unknown h defined (2 + inputs) says)
 
@@ -124,34 +123,42 @@ module _ (marks next : List ℕ) (inputs behind literal : ℕ) where
     output-known e = (refl, refl, λ defined says. beyond defined says ∙ rw e)
 
 -- all lines before the symbols
-module _ (m inputs latches gates : ℕ) (file : List ℕ) (at : ℕ) where
-  pub body-refused : (number place : ℕ) → firstRead (headerWith m inputs latches gates) (beginning file at []) ≡ refused number place → bodyRead (headerWith m inputs latches gates) (beginning file at []) ≡ refused number place
-  unfolding bodyRead
-  body-refused number place e = rw e
+module _ (m inputs latches gates : ℕ) (file : List ℕ) (from : Cursor) (second : from .line ≡ 2) where
+  pub body-refused : (number place : ℕ) → firstRead m inputs latches (from .line) (beginning file (from .at) []) ≡ refused number place → bodyRead (headerWith m inputs latches gates) (beginning file (from .at) []) ≡ refused number place
+  unfolding bodyRead headerWith
+  body-refused number place e = rw (subst (λ (n : ℕ). firstRead m inputs latches n (beginning file (from .at) []) ≡ refused number place) second e)
 
-  module _ (marks input latch next : List ℕ) (middle : ℕ) (w : FirstAt (headerWith m inputs latches gates) file at marks input latch next middle) where
+  module _ (marks input latch next : List ℕ) (middle : Cursor) (w : FirstAt m inputs latches file from marks input latch next middle) where
     -- what follows begins behind the latches
-    onward-is : onward (w .first .latches) ≡ beginning file middle (w .first .latches .defined)
+    onward-is : onward (w .first .latches) ≡ beginning file (middle .at) (w .first .latches .defined)
     unfolding onward beginning
     onward-is = λ x. record { rows = []; defined = w .first .latches .defined; rest = w .rest x }
 
-    pub body-refused-last : (number place : ℕ) → ((defined : List ℕ) → Marks marks defined → lastRead (headerWith m inputs latches gates) (beginning file middle defined) ≡ refused number place) → bodyRead (headerWith m inputs latches gates) (beginning file at []) ≡ refused number place
-    unfolding bodyRead
-    body-refused-last number place e = rw (w .whole, onward-is, e (w .first .latches .defined) (w .says))
+    -- line 2, and so many lines behind it
+    middle-line : middle .line ≡ 2 + inputs + latches
+    middle-line = w .line ∙ ap (λ (n : ℕ). n + inputs + latches) second
 
-    module _ (after gate left right : List ℕ) (behind literal : ℕ) (v : (defined : List ℕ) → Marks marks defined → LastAt (headerWith m inputs latches gates) file middle after gate left right behind literal defined) (nexts : length next ≡ latches) where
-      the-last : LastAt (headerWith m inputs latches gates) file middle after gate left right behind literal (w .first .latches .defined)
+    first-whole : firstRead m inputs latches 2 (beginning file (from .at) []) ≡ taken (w .first)
+    first-whole = subst (λ (n : ℕ). firstRead m inputs latches n (beginning file (from .at) []) ≡ taken (w .first)) second (w .whole)
+
+    pub body-refused-last : (number place : ℕ) → ((defined : List ℕ) → Marks marks defined → lastRead m gates (middle .line) (beginning file (middle .at) defined) ≡ refused number place) → bodyRead (headerWith m inputs latches gates) (beginning file (from .at) []) ≡ refused number place
+    unfolding bodyRead headerWith
+    body-refused-last number place e = rw (first-whole, onward-is, subst (λ (n : ℕ). lastRead m gates n (beginning file (middle .at) (w .first .latches .defined)) ≡ refused number place) middle-line (e (w .first .latches .defined) (w .says)))
+
+    module _ (after gate left right : List ℕ) (behind : Cursor) (literal : ℕ) (v : (defined : List ℕ) → Marks marks defined → LastAt m gates file middle after gate left right behind literal defined) (nexts : length next ≡ latches) where
+      the-last : LastAt m gates file middle after gate left right behind literal (w .first .latches .defined)
       the-last = v (w .first .latches .defined) (w .says)
 
       uses : map (λ fs. getD fs 1 0) (w .first .latches .rows) ++ map (λ fs. getD fs 0 0) (the-last .last .output .rows) ≡ next ++ (literal ∷ [])
       unfolding latchRow headerWith
       uses = ap₂ {C = List ℕ} (λ l k. l ++ k) (ap (map (λ fs. getD fs 1 0)) (w .latches) ∙ map-table (λ fs. getD fs 1 0) (latchRow latch next) latches ∙ ap (table (λ i. getD next i 0)) (sym nexts) ∙ table-getD next 0) (ap (map (λ fs. getD fs 0 0)) (the-last .output))
 
-      so-far : bodyRead (headerWith m inputs latches gates) (beginning file at []) ≡ (used (the-last .last .gates .defined) (2 + inputs) (next ++ (literal ∷ [])) >> taken (record { first = w .first; last = the-last .last }))
+      so-far : bodyRead (headerWith m inputs latches gates) (beginning file (from .at) []) ≡ (used (the-last .last .gates .defined) (2 + inputs) (next ++ (literal ∷ [])) >> taken (record { first = w .first; last = the-last .last }))
       unfolding bodyRead headerWith the-last
-      so-far = rw (w .whole, onward-is, the-last .whole) (ap (λ (l : List ℕ). used (the-last .last .gates .defined) (2 + inputs) l >> taken (record { first = w .first; last = the-last .last })) uses)
+      so-far = rw (first-whole, onward-is, subst (λ (n : ℕ). lastRead m gates n (beginning file (middle .at) (w .first .latches .defined)) ≡ taken (the-last .last)) middle-line (the-last .whole)) (ap (λ (l : List ℕ). used (the-last .last .gates .defined) (2 + inputs) l >> taken (record { first = w .first; last = the-last .last })) uses)
 
-      pub body-as : (r : Bodied) → UsedLines after next inputs behind literal r → BodiedAs (headerWith m inputs latches gates) file at input latch next gate left right r
+      pub body-as : (r : Bodied) → UsedLines after next inputs behind literal r → BodiedAs (headerWith m inputs latches gates) file from input latch next gate left right r
+      unfolding headerWith the-last
       body-as (Lines end output) h =
           rw (h .0, h .1)
           (record {
@@ -163,5 +170,6 @@ module _ (m inputs latches gates : ℕ) (file : List ℕ) (at : ℕ) where
             gates = the-last .gates;
             rest = the-last .rest;
             within = the-last .within;
+            line = omega (arith, the-last .line, middle-line);
           })
       body-as (Refused r) h = so-far ∙ rw (h (the-last .last .gates .defined) (the-last .says))

@@ -1,23 +1,21 @@
 -- A file from its first byte on: length, header, limits, and then its lines. Assumes nothing.
 use Prim.Native.Nat.{ℕ, _+_, _<_, _≤_}
 use native.Mathlib.Nat.{zero-add}
-use native.Mathlib.Omega.{arith}
-use mathlib.Core.Bool.{Bool, true, false, cond, not, _&&_}
+use mathlib.Core.Bool.{true, false, _&&_}
 use mathlib.Core.List.{List, [], _∷_}
 use mathlib.Core.Option.{none, some}
 use mathlib.Core.Path.{_≡_, refl, sym, ap, _∙_, subst}
-use lib.Dec.{eqb, leb, ltb}
+use lib.Dec.{eqb, leb}
 use lib.ListN.{length, take, drop}
 use borrow.Author.Tests.{lt-ltb, le-ltb, leb-true, eqb-true}
 use Rattle.bits.specs.Bytes.{startsWith}
 use Rattle.bits.proofs.laws.Bytes.{both-true}
-use Rattle.circuit.specs.Circuit.{Circuit}
 use Rattle.circuit.specs.Limits.{base}
-use Rattle.circuit.specs.Outcome.{Outcome, taken, refused, _>>=_, _>>_, refuseIf}
+use Rattle.circuit.specs.Outcome.{refused, _>>=_, _>>_, refuseIf}
 use Rattle.reader.specs.declared.fields.Row.{Row}
 use Rattle.reader.specs.declared.fields.Row.the-variants.{Of, Bad}
 use Rattle.reader.specs.BodyRead.{headerWith}
-use Rattle.text.specs.Header.{Header, word, headerNumbers, headerOf, withinLimits}
+use Rattle.text.specs.Header.{word, headerNumbers, headerOf, withinLimits}
 use Rattle.text.specs.Line.{lines, firstLine}
 use Rattle.reader.specs.LinesAs.{HeaderAs, circuitOfLines}
 use Rattle.text.specs.Numbers.{fileTooLong, badHeader, headerLimit}
@@ -45,34 +43,34 @@ pub record Within (m inputs latches outputs gates : ℕ) : Type 0 where
 pub within-says : (m inputs latches outputs gates : ℕ) → withinLimits base (headerOf (m ∷ inputs ∷ latches ∷ outputs ∷ gates ∷ [])) ≡ true → Within m inputs latches outputs gates
 unfolding withinLimits headerOf
 within-says m inputs latches outputs gates e =
-    let (abcd, room) = both-true (leb m 1000 && leb inputs 13 && leb latches 10 && eqb outputs 1) (leb (inputs + latches + gates) m) e in
-    let (abc, one) = both-true (leb m 1000 && leb inputs 13 && leb latches 10) (eqb outputs 1) abcd in
-    let (ab, most) = both-true (leb m 1000 && leb inputs 13) (leb latches 10) abc in
-    let (large, few) = both-true (leb m 1000) (leb inputs 13) ab in
-    record { largest = leb-true m 1000 large; inputs-most = leb-true inputs 13 few; latches-most = leb-true latches 10 most; output-one = eqb-true outputs 1 one; room = leb-true (inputs + latches + gates) m room }
+    let (abcd, room) = both-true (leb m (base .variable) && leb inputs (base .inputs) && leb latches (base .latches) && eqb outputs (base .outputs)) (leb (inputs + latches + gates) m) e in
+    let (abc, one) = both-true (leb m (base .variable) && leb inputs (base .inputs) && leb latches (base .latches)) (eqb outputs (base .outputs)) abcd in
+    let (ab, most) = both-true (leb m (base .variable) && leb inputs (base .inputs)) (leb latches (base .latches)) abc in
+    let (large, few) = both-true (leb m (base .variable)) (leb inputs (base .inputs)) ab in
+    record { largest = leb-true m (base .variable) large; inputs-most = leb-true inputs (base .inputs) few; latches-most = leb-true latches (base .latches) most; output-one = eqb-true outputs (base .outputs) one; room = leb-true (inputs + latches + gates) m room }
 
 module _ (bytes : List ℕ) where
   pub circuit-too-long : base .file < length bytes → circuitRead base bytes ≡ refused fileTooLong 0
   unfolding circuitRead fileRead refuseIf
-  circuit-too-long h = rw (lt-ltb 16384 (length bytes) h)
+  circuit-too-long h = rw (lt-ltb (base .file) (length bytes) h)
 
   module _ (fits : length bytes ≤ base .file) where
     pub circuit-headless : headerNumbers (firstLine bytes) ≡ none → circuitRead base bytes ≡ refused badHeader 1
     unfolding circuitRead fileRead refuseIf firstLine orBadHeader
-    circuit-headless e = rw (le-ltb 16384 (length bytes) fits, e)
+    circuit-headless e = rw (le-ltb (base .file) (length bytes) fits, e)
 
     module _ (m inputs latches outputs gates : ℕ) (numbers : headerNumbers (firstLine bytes) ≡ some (m ∷ inputs ∷ latches ∷ outputs ∷ gates ∷ [])) where
       pub circuit-over : withinLimits base (headerOf (m ∷ inputs ∷ latches ∷ outputs ∷ gates ∷ [])) ≡ false → circuitRead base bytes ≡ refused headerLimit 1
       unfolding circuitRead fileRead refuseIf firstLine orBadHeader
-      circuit-over e = rw (le-ltb 16384 (length bytes) fits, numbers, e)
+      circuit-over e = rw (le-ltb (base .file) (length bytes) fits, numbers, e)
 
       pub circuit-lines : withinLimits base (headerOf (m ∷ inputs ∷ latches ∷ outputs ∷ gates ∷ [])) ≡ true → (end : ℕ) → end ≡ length (firstLine bytes) → circuitRead base bytes ≡ circuitOfLines (linesRead (headerWith m inputs latches gates) (lines (drop end bytes)))
       unfolding circuitRead fileRead refuseIf firstLine orBadHeader circuitOfLines headerWith headerOf
       circuit-lines e end ends =
-          rw (le-ltb 16384 (length bytes) fits, numbers, e)
+          rw (le-ltb (base .file) (length bytes) fits, numbers, e)
           (ap circuitOfLines
           (subst (λ (o : ℕ). linesRead (record { largest = m; inputs = inputs; latches = latches; outputs = outputs; gates = gates }) (drop 1 (lines bytes)) ≡ linesRead (record { largest = m; inputs = inputs; latches = latches; outputs = o; gates = gates }) (drop 1 (lines bytes))) (within-says m inputs latches outputs gates e .output-one) refl
-          ∙ ap (linesRead (record { largest = m; inputs = inputs; latches = latches; outputs = 1; gates = gates })) (lines-behind bytes ∙ ap (λ (k : ℕ). lines (drop k bytes)) (sym ends))))
+          ∙ ap (linesRead (record { largest = m; inputs = inputs; latches = latches; outputs = base .outputs; gates = gates })) (lines-behind bytes ∙ ap (λ (k : ℕ). lines (drop k bytes)) (sym ends))))
 
 -- the first line is the part of the file up to its end
 pub first-part : (bytes : List ℕ) (end : ℕ) → end ≡ 0 + length (firstLine bytes) → take end bytes ≡ firstLine bytes

@@ -1,17 +1,13 @@
 -- One line judged: from its numbers and its faults as the code finds them to the definition's outcome. Assumes nothing.
-use Prim.Native.Nat.{ℕ, zero, suc, _+_, _*_, _<_, _≤_}
+use Prim.Native.Nat.{ℕ, _+_, _*_, _<_}
 use native.Mathlib.Omega.{arith}
-use mathlib.Core.Bool.{Bool, true, false, cond, not, _&&_, _||_}
+use mathlib.Core.Bool.{Bool, true, false, not, _&&_, _||_}
 use mathlib.Core.List.{List, [], _∷_}
 use mathlib.Core.Option.{Option, none, some}
-use mathlib.Core.Path.{_≡_, refl, sym, ap, ap₂, _∙_, subst}
-use lib.Dec.{eqb, ltb}
-use lib.ListN.{getD}
+use mathlib.Core.Path.{_≡_, refl, sym, ap}
 use borrow.Author.Tests.{ltb-false}
-use Rattle.below.specs.Among.{member}
 use Rattle.circuit.specs.Literal.{variable, constant, mayDefine, tooLarge}
-use Rattle.circuit.specs.Outcome.{Outcome, taken, refused}
-use Rattle.circuit.specs.Limits.{base}
+use Rattle.circuit.specs.Outcome.{taken, refused}
 use Rattle.reader.specs.declared.body.Lined.the-variants.{Fault}
 use Rattle.text.specs.Line.{numbersOf}
 use Rattle.reader.specs.LinedAs.{LinedAs}
@@ -92,23 +88,6 @@ module _ (M : ℕ) (marks defined : List ℕ) (says : Marks marks defined) where
   unfolding gateRule
   gate-fault a b c = rw (defined-marked a, unknown-unmarked b, unknown-unmarked c)
 
--- the answer for a line, from what its numbers call for
-module _ (rule : Rule) (marks line : List ℕ) where
-  pub lined-malformed : numbersOf (rule .count) line ≡ none → LinedAs rule marks line (Fault 4)
-  lined-malformed e defined place says = judged-malformed rule defined place (numbersOf (rule .count) line) e
-
-  module _ (fs : List ℕ) (five six seven : Bool) (number : ℕ) (are : numbersOf (rule .count) line ≡ some fs)
-      (calls : (defined : List ℕ) → Marks marks defined → rule .fault defined fs ≡ firstOf five six seven)
-      (found : number ≡ numberOr (firstOf five six seven)) where
-    pub lined-faulty : (number ≡ 0 → ⊥) → LinedAs rule marks line (Fault number)
-    lined-faulty h defined place says =
-        judged-faulty rule defined place (numbersOf (rule .count) line) fs are number
-        (calls defined says ∙ some-of five six seven (λ e. h (found ∙ e)) ∙ ap some (sym found))
-
-    pub lined-fine : number ≡ 0 → (defined : List ℕ) (place : ℕ) → Marks marks defined → judged rule defined place (numbersOf (rule .count) line) ≡ taken fs
-    lined-fine e defined place says =
-        judged-fine rule defined place (numbersOf (rule .count) line) fs are (calls defined says ∙ none-of five six seven (sym found ∙ e))
-
--- a literal below 2M + 2 is one that a circuit may have
-pub may-have : (M l : ℕ) → M ≤ base .variable → l < 2 * M + 2 → l < 2 * base .variable + 2
-may-have M l h e = omega arith
+-- a line without its numbers
+pub lined-malformed : (rule : Rule) (marks line : List ℕ) → numbersOf (rule .count) line ≡ none → LinedAs rule marks line (Fault 4)
+lined-malformed rule marks line e defined place says = judged-malformed rule defined place (numbersOf (rule .count) line) e

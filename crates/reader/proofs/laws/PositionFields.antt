@@ -1,17 +1,15 @@
 -- The numbers of a line, field by field from a place on. Assumes nothing.
-use Prim.Native.Nat.{ℕ, suc, _+_, _<_, _≤_}
+use Prim.Native.Nat.{ℕ, _+_, _<_, _≤_}
 use native.Mathlib.Omega.{arith}
 use native.Mathlib.Nat.{add-zero}
-use mathlib.Core.Bool.{Bool, true, false}
 use mathlib.Core.List.{List, [], _∷_}
-use mathlib.Core.Option.{Option, none, some}
-use mathlib.Core.Path.{_≡_, refl, sym, ap, _∙_}
-use lib.Dec.{eqb}
+use mathlib.Core.Option.{none, some}
+use mathlib.Core.Path.{_≡_, ap, _∙_}
 use lib.ListN.{length, getD, drop, drop-of-length-le, List·getD-eq-default}
 use lib.Seq.{drop-drop, getD-drop, drop-cons}
 use borrow.Author.Tests.{eq-eqb, ne-eqb}
 use Rattle.text.specs.Line.{fields, prepend}
-use Rattle.text.specs.Number.{Num, is, bad, number}
+use Rattle.text.specs.Number.{is, bad, number}
 
 module _ (s : List ℕ) (at p : ℕ) where
   pub field-bad : number (drop at s) ≡ bad → (ps : List ℕ) → fields (p ∷ ps) (drop at s) ≡ none

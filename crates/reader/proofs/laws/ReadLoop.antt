@@ -6,9 +6,8 @@ use mathlib.Core.Bool.{Bool, true, false, cond, not, _||_}
 use mathlib.Core.List.{List, [], _∷_, _++_, map}
 use mathlib.Core.Path.{_≡_, refl, sym, ap, ap₂, _∙_, subst}
 use lib.Dec.{eqb, ltb}
-use lib.ListN.{length, getD, take, drop, replicate, length-replicate, getD-replicate, length-append, length-take, length-drop, List·getD-eq-default}
+use lib.ListN.{length, getD, take, drop, replicate, length-replicate, getD-replicate, length-take, length-drop, List·getD-eq-default}
 use lib.Seq.{take-all, take-append-add, ext-getD, getD-drop, getD-take}
-use borrow.Author.Tests.{lt-ltb, le-ltb}
 use Rattle.below.specs.Table.{table}
 use Rattle.below.proofs.laws.Filled.{replicate-table}
 use Rattle.below.proofs.laws.Table.{length-table, getD-table, map-table, table-getD, table-same}
@@ -21,9 +20,9 @@ use Rattle.circuit.specs.declared.Read.the-variants.{Taken, Refused}
 use Rattle.circuit.specs.Limits.{base}
 use Rattle.circuit.specs.Outcome.{Outcome, taken, refused, _>>=_, _>>_, refuseIf}
 use Rattle.circuit.specs.Stored.{padded, stored, emptyCircuit, inputsOf, literalOf}
-use Rattle.circuit.proofs.laws.Counts.{inputs-of-two-sorts, length-inputs}
 use Rattle.reader.specs.BodyRead.{headerWith}
 use Rattle.reader.specs.CountedAs.{withInputs, CountedAs}
+use Rattle.reader.specs.declared.line.Cursor.{Cursor}
 use Rattle.text.specs.Line.{lines}
 use Rattle.reader.specs.LinesAs.{circuitOfLines}
 use Rattle.text.specs.Numbers.{tooManyInputs}
@@ -31,7 +30,7 @@ use Rattle.text.specs.Read.{linesRead}
 use Rattle.text.specs.Symbol.{isControllable}
 use Rattle.reader.specs.SymbolAs.{Flags}
 use Rattle.reader.specs.TextAt.{latchAt, gateAt, TextAt}
-use Rattle.text.specs.TextFile.{TextFile, circuitOf}
+use Rattle.text.specs.TextFile.{circuitOf}
 
 abbrev zeroes : ℕ → List ℕ
 zeroes n = table (λ i. 0) n
@@ -72,28 +71,10 @@ padded-part n k l e h =
         below : (i : ℕ) → i < length (take (n - k) (replicate n zero)) → i < n - k
         below i j = omega (arith, length-take (n - k) (replicate {A = ℕ} n 0))
 
-or-true : (b : Bool) → (b || true) ≡ true
-or-true true = refl
-or-true false = refl
-
-or-false : (b : Bool) → (b || false) ≡ b
-or-false true = refl
-or-false false = refl
-
-module _ (input flags : List ℕ) (n : ℕ) (are : n ≡ inputsThat (λ j. j .controllable) (inputsOf input flags)) where
-  pub counted-most : n ≤ length input
-  counted-most = omega (arith, inputs-of-two-sorts (inputsOf input flags), length-inputs input flags)
-
-  pub too-many-controllable : 8 < n → true ≡ tooMany base (withInputs (inputsOf input flags))
-  unfolding tooMany withInputs controllableCount uncontrollableCount
-  too-many-controllable h = sym (rw (← are, lt-ltb 8 n h) (or-true (ltb 5 (inputsThat (λ j. not (j .controllable)) (inputsOf input flags)))))
-
-  pub not-too-many : n ≤ 8 → ltb 5 (length input - n) ≡ tooMany base (withInputs (inputsOf input flags))
-  unfolding tooMany withInputs controllableCount uncontrollableCount
-  not-too-many h = rw (← are, le-ltb 8 n h) (ap (ltb 5) rest ∙ sym (or-false (ltb 5 (inputsThat (λ j. not (j .controllable)) (inputsOf input flags)))))
-    where
-      rest : length input - n ≡ inputsThat (λ j. not (j .controllable)) (inputsOf input flags)
-      rest = omega (arith, inputs-of-two-sorts (inputsOf input flags), length-inputs input flags)
+-- too many inputs of a sort, by the counts of both
+pub too-many-counted : (input flags : List ℕ) (u k : ℕ) (b : Bool) → u ≡ inputsThat (λ (i : Input). not (i .controllable)) (inputsOf input flags) → k ≡ inputsThat (λ (i : Input). i .controllable) (inputsOf input flags) → b ≡ (ltb (base .uncontrollable) u || ltb (base .controllable) k) → b ≡ tooMany base (withInputs (inputsOf input flags))
+unfolding tooMany withInputs controllableCount uncontrollableCount
+too-many-counted input flags u k b us ks e = e ∙ ap₂ (λ (m n : ℕ). ltb (base .uncontrollable) m || ltb (base .controllable) n) us ks
 
 -- zeros cut to a length
 pub zeros-cut : (n k : ℕ) (l : List ℕ) → l ≡ zeroes n → k ≤ n → length (take k l) ≡ k
@@ -137,8 +118,8 @@ flag-is true = refl
 flag-is false = refl
 
 -- the file that was read, as the code holds it, and the circuit that it means
-module _ (m inputs latches gates : ℕ) (bytes : List ℕ) (at : ℕ) (input flags latch next gate left right : List ℕ) (literal : ℕ)
-    (w : TextAt (headerWith m inputs latches gates) bytes at input flags latch next gate left right literal)
+module _ (m inputs latches gates : ℕ) (bytes : List ℕ) (from : Cursor) (input flags latch next gate left right : List ℕ) (behind : Cursor) (literal : ℕ)
+    (w : TextAt (headerWith m inputs latches gates) bytes from input flags latch next gate left right behind literal)
     (inputs-long : length input ≡ inputs) (flags-long : length flags ≡ inputs) where
   flags-are : (i : ℕ) → i < inputs → not (eqb (getD flags i 0) 0) ≡ isControllable (w .file .symbols) i
   unfolding headerWith Flags
@@ -146,7 +127,7 @@ module _ (m inputs latches gates : ℕ) (bytes : List ℕ) (at : ℕ) (input fla
 
   pub too-many-same : tooMany base (withInputs (inputsOf input flags)) ≡ tooMany base (circuitOf (w .file))
   unfolding tooMany withInputs uncontrollableCount controllableCount inputsOf circuitOf
-  too-many-same = ap₂ (λ (u c : ℕ). ltb 5 u || ltb 8 c) (count (λ i. not (i .controllable)) (λ i h. ap not (flags-are i h))) (count (λ i. i .controllable) flags-are)
+  too-many-same = ap₂ (λ (u c : ℕ). ltb (base .uncontrollable) u || ltb (base .controllable) c) (count (λ i. not (i .controllable)) (λ i h. ap not (flags-are i h))) (count (λ i. i .controllable) flags-are)
     where
       size : length (w .file .inputs) ≡ inputs
       size = ap length (w .inputs) ∙ inputs-long
@@ -174,7 +155,7 @@ module _ (m inputs latches gates : ℕ) (bytes : List ℕ) (at : ℕ) (input fla
     column f g l n e same = map-table f g n ∙ table-same (λ i. f (g i)) (λ i. getD l i 0) n (λ i h. same i) ∙ ap (table (λ i. getD l i 0)) (sym e) ∙ table-getD l 0
 
     -- the value that the code makes stores the circuit that the file means
-    pub value-stored : (v : Value) → v .largest ≡ m → v .inputs ≡ inputs → v .latches ≡ latches → v .gates ≡ gates → v .output ≡ literal → v .input ≡ input ++ drop inputs (zeroes 13) → v .controllable ≡ flags ++ drop inputs (zeroes 13) → v .latch ≡ latch ++ drop latches (zeroes 10) → v .next ≡ next ++ drop latches (zeroes 10) → v .gate ≡ gate ++ drop gates (zeroes 1000) → v .left ≡ left ++ drop gates (zeroes 1000) → v .right ≡ right ++ drop gates (zeroes 1000) → v ≡ stored (circuitOf (w .file))
+    pub value-stored : (v : Value) → v .largest ≡ m → v .inputs ≡ inputs → v .latches ≡ latches → v .gates ≡ gates → v .output ≡ literal → v .input ≡ input ++ drop inputs (zeroes (base .inputs)) → v .controllable ≡ flags ++ drop inputs (zeroes (base .inputs)) → v .latch ≡ latch ++ drop latches (zeroes (base .latches)) → v .next ≡ next ++ drop latches (zeroes (base .latches)) → v .gate ≡ gate ++ drop gates (zeroes (base .variable)) → v .left ≡ left ++ drop gates (zeroes (base .variable)) → v .right ≡ right ++ drop gates (zeroes (base .variable)) → v ≡ stored (circuitOf (w .file))
     unfolding stored headerWith latchAt gateAt circuitOf
     value-stored v q₁ q₂ q₃ q₄ q₅ q₆ q₇ q₈ q₉ q₁₀ q₁₁ q₁₂ =
         λ x.
@@ -183,24 +164,24 @@ module _ (m inputs latches gates : ℕ) (bytes : List ℕ) (at : ℕ) (input fla
           inputs = (q₂ ∙ sym (ap length (w .inputs) ∙ inputs-long) ∙ sym (length-table {A = Input} (λ i. record { own = getD (w .file .inputs) i 0; controllable = isControllable (w .file .symbols) i }) (length (w .file .inputs)))) x;
           latches = (q₃ ∙ sym (ap length (w .latches) ∙ length-table (latchAt latch next) latches)) x;
           gates = (q₄ ∙ sym (ap length (w .gates) ∙ length-table (gateAt gate left right) gates)) x;
-          input = (q₆ ∙ padded-part 13 inputs input inputs-long few-inputs ∙ ap (padded 13) (sym input-column)) x;
-          controllable = (q₇ ∙ padded-part 13 inputs flags flags-long few-inputs ∙ ap (padded 13) (sym flag-column)) x;
-          latch = (q₈ ∙ padded-part 10 latches latch latches-long few-latches ∙ ap (padded 10) (sym (ap (map (λ (l : Latch). l .own)) (w .latches) ∙ column (λ (l : Latch). l .own) (latchAt latch next) latch latches latches-long (λ i. refl)))) x;
-          next = (q₉ ∙ padded-part 10 latches next nexts-long few-latches ∙ ap (padded 10) (sym (ap (map (λ (l : Latch). l .next)) (w .latches) ∙ column (λ (l : Latch). l .next) (latchAt latch next) next latches nexts-long (λ i. refl)))) x;
+          input = (q₆ ∙ padded-part (base .inputs) inputs input inputs-long few-inputs ∙ ap (padded (base .inputs)) (sym input-column)) x;
+          controllable = (q₇ ∙ padded-part (base .inputs) inputs flags flags-long few-inputs ∙ ap (padded (base .inputs)) (sym flag-column)) x;
+          latch = (q₈ ∙ padded-part (base .latches) latches latch latches-long few-latches ∙ ap (padded (base .latches)) (sym (ap (map (λ (l : Latch). l .own)) (w .latches) ∙ column (λ (l : Latch). l .own) (latchAt latch next) latch latches latches-long (λ i. refl)))) x;
+          next = (q₉ ∙ padded-part (base .latches) latches next nexts-long few-latches ∙ ap (padded (base .latches)) (sym (ap (map (λ (l : Latch). l .next)) (w .latches) ∙ column (λ (l : Latch). l .next) (latchAt latch next) next latches nexts-long (λ i. refl)))) x;
           output = (q₅ ∙ sym (w .output)) x;
-          gate = (q₁₀ ∙ padded-part 1000 gates gate gates-long few-gates ∙ ap (padded 1000) (sym (ap (map (λ (g : Gate). g .own)) (w .gates) ∙ column (λ (g : Gate). g .own) (gateAt gate left right) gate gates gates-long (λ i. refl)))) x;
-          left = (q₁₁ ∙ padded-part 1000 gates left lefts-long few-gates ∙ ap (padded 1000) (sym (ap (map (λ (g : Gate). g .left)) (w .gates) ∙ column (λ (g : Gate). g .left) (gateAt gate left right) left gates lefts-long (λ i. refl)))) x;
-          right = (q₁₂ ∙ padded-part 1000 gates right rights-long few-gates ∙ ap (padded 1000) (sym (ap (map (λ (g : Gate). g .right)) (w .gates) ∙ column (λ (g : Gate). g .right) (gateAt gate left right) right gates rights-long (λ i. refl)))) x;
+          gate = (q₁₀ ∙ padded-part (base .variable) gates gate gates-long few-gates ∙ ap (padded (base .variable)) (sym (ap (map (λ (g : Gate). g .own)) (w .gates) ∙ column (λ (g : Gate). g .own) (gateAt gate left right) gate gates gates-long (λ i. refl)))) x;
+          left = (q₁₁ ∙ padded-part (base .variable) gates left lefts-long few-gates ∙ ap (padded (base .variable)) (sym (ap (map (λ (g : Gate). g .left)) (w .gates) ∙ column (λ (g : Gate). g .left) (gateAt gate left right) left gates lefts-long (λ i. refl)))) x;
+          right = (q₁₂ ∙ padded-part (base .variable) gates right rights-long few-gates ∙ ap (padded (base .variable)) (sym (ap (map (λ (g : Gate). g .right)) (w .gates) ∙ column (λ (g : Gate). g .right) (gateAt gate left right) right gates rights-long (λ i. refl)))) x;
         }
 
     -- the reader's answer: number 9, or the circuit
-    pub lines-as : (v : Value) (r : FileRead) → v ≡ stored (circuitOf (w .file)) → take inputs (v .input) ≡ input → take inputs (v .controllable) ≡ flags → CountedAs v inputs r → ReadAs (circuitOfLines (linesRead (headerWith m inputs latches gates) (lines (drop at bytes)))) r
+    pub lines-as : (v : Value) (r : FileRead) → v ≡ stored (circuitOf (w .file)) → take inputs (v .input) ≡ input → take inputs (v .controllable) ≡ flags → CountedAs v inputs r → ReadAs (circuitOfLines (linesRead (headerWith m inputs latches gates) (lines (drop (from .at) bytes)))) r
     unfolding circuitOfLines refuseIf
     lines-as v r is front fronts h = by (tooMany base (circuitOf (w .file))) refl
       where
         asked : tooMany base (withInputs (inputsOf (take inputs (v .input)) (take inputs (v .controllable)))) ≡ tooMany base (circuitOf (w .file))
         asked = ap₂ (λ (a b : List ℕ). tooMany base (withInputs (inputsOf a b))) front fronts ∙ too-many-same
 
-        by : (b : Bool) → tooMany base (circuitOf (w .file)) ≡ b → ReadAs (circuitOfLines (linesRead (headerWith m inputs latches gates) (lines (drop at bytes)))) r
+        by : (b : Bool) → tooMany base (circuitOf (w .file)) ≡ b → ReadAs (circuitOfLines (linesRead (headerWith m inputs latches gates) (lines (drop (from .at) bytes)))) r
         by true e = read-refused _ tooManyInputs 0 r (rw (w .whole, e)) (h .many (asked ∙ e))
         by false e = read-taken _ (circuitOf (w .file)) r (rw (w .whole, e)) (h .few (asked ∙ e) ∙ ap {B = FileRead} (λ u. record { answer = Taken; circuit = u }) is)

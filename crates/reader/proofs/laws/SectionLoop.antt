@@ -1,12 +1,11 @@
 -- A section read line by line: what is left of it equals the whole. Assumes nothing.
-use Prim.Native.Nat.{ℕ, zero, suc, _+_, _*_, _-_, _<_, _≤_}
+use Prim.Native.Nat.{ℕ, suc, _+_, _*_, _-_, _<_, _≤_}
 use native.Mathlib.Decide.{ℕ-discrete}
 use native.Mathlib.Numerals.{add-one}
 use native.Mathlib.Omega.{arith}
-use native.Mathlib.Nat.{add-zero, sub-zero, sub-self, add-suc}
+use native.Mathlib.Nat.{add-zero, sub-zero, add-suc}
 use mathlib.Core.Bool.{Bool, true, false, cond, _||_}
 use mathlib.Core.List.{List, [], _∷_, _++_}
-use mathlib.Core.Option.{Option}
 use mathlib.Core.Path.{_≡_, refl, sym, ap, ap₂, _∙_, subst}
 use lib.Dec.{eqb}
 use lib.ListN.{length, getD, take, drop, set, length-set, length-drop}
@@ -19,6 +18,7 @@ use Rattle.below.proofs.laws.Table.{table-same}
 use Rattle.circuit.specs.Limits.{base}
 use Rattle.circuit.specs.Literal.{variable}
 use Rattle.circuit.specs.Outcome.{Outcome, taken, refused, _>>=_}
+use Rattle.reader.specs.declared.line.Cursor.{Cursor}
 use Rattle.text.specs.Line.{lines, firstLine, numbersOf}
 use Rattle.reader.specs.Marks.{Marks}
 use Rattle.text.specs.Rules.{Rule}
@@ -89,14 +89,15 @@ module _ (rule : Rule) (n place : ℕ) (s : List ℕ) (start : ℕ) (defined₀ 
         body : withRow rule (record { rows = table row i; defined = w .defined; rest = lines (drop at s) }) fs ≡ record { rows = table row′ (suc i); defined = w .defined ++ cond (rule .defines) (variable (getD fs 0 0) ∷ []) []; rest = lines (drop next s) }
         body = λ x. record { rows = rows x; defined = w .defined ++ cond (rule .defines) (variable (getD fs 0 0) ∷ []) []; rest = rest x }
 
-  pub reading-ends : (before marks : List ℕ) (row : ℕ → List ℕ) (at i : ℕ) → Reading marks row at i → n ≤ i → at ≤ length s → ReadTo rule n place s start before marks row at defined₀
+  pub reading-ends : (before marks : List ℕ) (row : ℕ → List ℕ) (here : Cursor) (i : ℕ) → Reading marks row (here .at) i → n ≤ i → here .at ≤ length s → here .line ≡ place + i → ReadTo rule n s (record { at = start; line = place }) before marks row here defined₀
   unfolding section
-  reading-ends before marks row at i w done within =
+  reading-ends before marks row here i w done within line =
       record {
         defines = w .defined;
         says = w .says;
-        whole = w .whole ∙ subst (λ (m : ℕ). section rule m (place + i) (record { rows = table row i; defined = w .defined; rest = lines (drop at s) }) ≡ taken (record { rows = table row n; defined = w .defined; rest = lines (drop at s) })) (sym none) (ap (λ (m : ℕ). taken (record { rows = table row m; defined = w .defined; rest = lines (drop at s) })) all);
+        whole = w .whole ∙ subst (λ (m : ℕ). section rule m (place + i) (record { rows = table row i; defined = w .defined; rest = lines (drop (here .at) s) }) ≡ taken (record { rows = table row n; defined = w .defined; rest = lines (drop (here .at) s) })) (sym none) (ap (λ (m : ℕ). taken (record { rows = table row m; defined = w .defined; rest = lines (drop (here .at) s) })) all);
         within = within;
+        line = line ∙ ap (λ (m : ℕ). place + m) all;
       }
     where
       none : n - i ≡ 0
@@ -115,45 +116,48 @@ pub line-ends-within : (s : List ℕ) (at end : ℕ) → end ≡ at + length (fi
 line-ends-within s at end e h = omega (arith, first-line-within (drop at s), length-drop at s)
 
 -- what a section's loop knows, whatever was defined before it
-pub record Looping (rule : Rule) (n place : ℕ) (s : List ℕ) (start : ℕ) (before marks : List ℕ) (row : ℕ → List ℕ) (at i : ℕ) : Type 0 where
+pub record Looping (rule : Rule) (n : ℕ) (s : List ℕ) (from : Cursor) (before marks : List ℕ) (row : ℕ → List ℕ) (here : Cursor) (i : ℕ) : Type 0 where
   pub marks-all : length marks ≡ length before
-  pub within : at ≤ length s
+  pub within : here .at ≤ length s
   pub count : i ≤ n
-  pub reading : (defined : List ℕ) → Marks before defined → Reading rule n place s start defined marks row at i
+  pub line : here .line ≡ from .line + i
+  pub reading : (defined : List ℕ) → Marks before defined → Reading rule n (from .line) s (from .at) defined marks row (here .at) i
 
-pub looping-starts : (rule : Rule) (n place : ℕ) (s : List ℕ) (start : ℕ) (before : List ℕ) (row : ℕ → List ℕ) → start ≤ length s → Looping rule n place s start before before row start 0
-looping-starts rule n place s start before row h =
-    record { marks-all = refl; within = h; count = omega arith; reading = λ defined says. reading-starts rule n place s start defined before row says }
+pub looping-starts : (rule : Rule) (n : ℕ) (s : List ℕ) (from : Cursor) (before : List ℕ) (row : ℕ → List ℕ) → from .at ≤ length s → Looping rule n s from before before row from 0
+looping-starts rule n s from before row h =
+    record { marks-all = refl; within = h; count = omega arith; line = sym (add-zero (from .line)); reading = λ defined says. reading-starts rule n (from .line) s (from .at) defined before row says }
 
-module _ (rule : Rule) (n place : ℕ) (s : List ℕ) (start : ℕ) (before marks : List ℕ) (row : ℕ → List ℕ) (at i : ℕ)
-    (w : Looping rule n place s start before marks row at i) where
-  pub looping-ends : n ≤ i → (defined : List ℕ) → Marks before defined → ReadTo rule n place s start before marks row at defined
-  looping-ends done defined says = reading-ends rule n place s start defined before marks row at i (w .reading defined says) done (w .within)
+module _ (rule : Rule) (n : ℕ) (s : List ℕ) (from : Cursor) (before marks : List ℕ) (row : ℕ → List ℕ) (here : Cursor) (i : ℕ)
+    (w : Looping rule n s from before marks row here i) where
+  pub looping-ends : n ≤ i → (defined : List ℕ) → Marks before defined → ReadTo rule n s from before marks row here defined
+  looping-ends done defined says = reading-ends rule n (from .line) s (from .at) defined before marks row here i (w .reading defined says) done (w .within) (w .line)
 
-  module _ (more : i < n) (end : ℕ) (ends : end ≡ at + length (firstLine (drop at s))) where
-    pub looping-refuses : (number : ℕ) → ((defined : List ℕ) (p : ℕ) → Marks marks defined → judged rule defined p (numbersOf (rule .count) (take (end - at) (drop at s))) ≡ refused number p) → (defined : List ℕ) → Marks before defined → section rule n place (beginning s start defined) ≡ refused number (place + i)
+  module _ (more : i < n) (end : ℕ) (ends : end ≡ here .at + length (firstLine (drop (here .at) s))) where
+    pub looping-refuses : (number : ℕ) → ((defined : List ℕ) (p : ℕ) → Marks marks defined → judged rule defined p (numbersOf (rule .count) (take (end - here .at) (drop (here .at) s))) ≡ refused number p) → (defined : List ℕ) → Marks before defined → section rule n (from .line) (beginning s (from .at) defined) ≡ refused number (here .line)
     looping-refuses number faulty defined says =
         let r = w .reading defined says in
-        reading-refuses rule n place s start defined marks row at i r more number
-        (rw (line-part s at end ends) at (faulty (r .defined) (place + i) (r .says)))
+        reading-refuses rule n (from .line) s (from .at) defined marks row (here .at) i r more number
+        (rw (line-part s (here .at) end ends) at (faulty (r .defined) (from .line + i) (r .says)))
+        ∙ ap (refused number) (sym (w .line))
 
-    pub looping-goes-on : (fs : List ℕ) (row′ : ℕ → List ℕ) → ((defined : List ℕ) (p : ℕ) → Marks marks defined → judged rule defined p (numbersOf (rule .count) (take (end - at) (drop at s))) ≡ taken fs) → ((j : ℕ) → j < i → row j ≡ row′ j) → row′ i ≡ fs → rule .defines ≡ true → variable (getD fs 0 0) < length marks → Looping rule n place s start before (set marks (variable (getD fs 0 0)) 1) row′ end (i + 1)
-    looping-goes-on fs row′ fine same here defines marked =
+    pub looping-goes-on : (fs : List ℕ) (row′ : ℕ → List ℕ) → ((defined : List ℕ) (p : ℕ) → Marks marks defined → judged rule defined p (numbersOf (rule .count) (take (end - here .at) (drop (here .at) s))) ≡ taken fs) → ((j : ℕ) → j < i → row j ≡ row′ j) → row′ i ≡ fs → rule .defines ≡ true → variable (getD fs 0 0) < length marks → Looping rule n s from before (set marks (variable (getD fs 0 0)) 1) row′ (record { at = end; line = here .line + 1 }) (i + 1)
+    looping-goes-on fs row′ fine same stored defines marked =
         record {
           marks-all = length-set marks (variable (getD fs 0 0)) 1 ∙ w .marks-all;
-          within = line-ends-within s at end ends (w .within);
+          within = line-ends-within s (here .at) end ends (w .within);
           count = omega arith;
+          line = omega (arith, w .line);
           reading = onward;
         }
       where
-        onward : (defined : List ℕ) → Marks before defined → Reading rule n place s start defined (set marks (variable (getD fs 0 0)) 1) row′ end (i + 1)
+        onward : (defined : List ℕ) → Marks before defined → Reading rule n (from .line) s (from .at) defined (set marks (variable (getD fs 0 0)) 1) row′ end (i + 1)
         onward defined says =
             let r = w .reading defined says in
-            reading-goes-on rule n place s start defined marks row at i r more fs (set marks (variable (getD fs 0 0)) 1) row′ end
-            (rw (line-part s at end ends) at (fine (r .defined) (place + i) (r .says)))
+            reading-goes-on rule n (from .line) s (from .at) defined marks row (here .at) i r more fs (set marks (variable (getD fs 0 0)) 1) row′ end
+            (rw (line-part s (here .at) end ends) at (fine (r .defined) (from .line + i) (r .says)))
             ends
             same
-            here
+            stored
             (rw defines (mark-more marks (r .defined) (variable (getD fs 0 0)) marked (r .says)))
 
 -- a literal that a circuit may have has a mark

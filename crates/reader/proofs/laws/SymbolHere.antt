@@ -1,21 +1,20 @@
 -- A symbol from what the code finds in its line. Assumes nothing.
-use Prim.Native.Nat.{ℕ, zero, suc, _+_, _<_, _≤_}
+use Prim.Native.Nat.{ℕ, _+_, _<_, _≤_}
 use native.Mathlib.Omega.{arith}
-use mathlib.Core.Bool.{Bool, true, false, cond, not, _&&_, true≢false}
+use mathlib.Core.Bool.{Bool, true, false, cond, _&&_, true≢false}
 use mathlib.Core.List.{List, [], _∷_}
-use mathlib.Core.Option.{Option, none, some}
+use mathlib.Core.Option.{Option, none}
 use mathlib.Core.Path.{_≡_, refl, sym, ap, ap₂, _∙_, subst}
-use lib.Dec.{eqb, ltb, leb}
+use lib.Dec.{eqb}
 use lib.ListN.{length, getD, drop}
 use lib.Seq.{drop-drop, drop-cons}
-use borrow.Author.Tests.{eq-eqb, ne-eqb, eqb-true, lt-ltb, le-ltb}
-use Rattle.below.specs.Among.{among}
-use Rattle.bits.specs.Bytes.{ascii, startsWith}
+use borrow.Author.Tests.{eq-eqb, eqb-true, lt-ltb, le-ltb}
+use Rattle.bits.specs.Bytes.{startsWith}
 use Rattle.reader.specs.declared.symbols.Symboled.{Symboled}
 use Rattle.reader.specs.declared.symbols.Symboled.the-variants.{Comment, Of, Bad}
 use Rattle.text.specs.Header.{Header}
 use Rattle.text.specs.Number.{is, bad, number, run}
-use Rattle.text.specs.Symbol.{Symbol, inputLetter, prefix, isNameByte, isName, names, positions, symbolAt, symbolOf, isComment, isControllableName}
+use Rattle.text.specs.Symbol.{Symbol, inputLetter, prefix, isNameByte, names, positions, symbolAt, symbolOf, isComment, isControllableName}
 use Rattle.reader.specs.SymbolAs.{Named, wellNamed, counted, slotOf}
 use Rattle.reader.specs.SymboledAs.{IsSymbol, SymbolAt, SymbolAs}
 

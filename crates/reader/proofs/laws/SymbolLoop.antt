@@ -1,31 +1,32 @@
 -- Symbol lines read one by one: what is left of them equals the whole. Assumes nothing.
-use Prim.Native.Nat.{ℕ, zero, suc, _+_, _-_, _<_, _≤_}
+use Prim.Native.Nat.{ℕ, _+_, _-_, _<_, _≤_}
 use native.Mathlib.Decide.{ℕ-discrete}
-use native.Mathlib.Nat.{add-zero, add-suc}
+use native.Mathlib.Nat.{add-zero}
 use native.Mathlib.Numerals.{add-one}
 use native.Mathlib.Omega.{arith}
-use mathlib.Core.Bool.{Bool, true, false, cond, _&&_, _||_, true≢false}
+use mathlib.Core.Bool.{Bool, true, false, cond, _&&_, _||_}
 use mathlib.Core.List.{List, [], _∷_, _++_, flatMap}
-use mathlib.Core.Option.{Option, none, some}
+use mathlib.Core.Option.{none, some}
 use mathlib.Core.Path.{_≡_, refl, sym, ap, ap₂, _∙_, subst}
 use lib.Dec.{eqb}
-use lib.ListN.{length, getD, take, drop, set, length-set, length-drop, drop-of-length-le}
+use lib.ListN.{length, getD, take, drop, set, length-set, length-drop, length-append, drop-of-length-le}
 use lib.Seq.{drop-cons, drop-drop, getD-set-same, getD-set-other}
-use borrow.Author.Tests.{eq-eqb, ne-eqb, eqb-true}
+use borrow.Author.Tests.{eq-eqb, eqb-true}
 use Rattle.below.specs.Among.{among}
 use Rattle.below.proofs.laws.Among.{among-snoc}
 use Rattle.bits.specs.Bit.{oneIf}
 use Rattle.bits.proofs.laws.Bytes.{both-true}
 use Rattle.circuit.specs.Limits.{base}
-use Rattle.circuit.specs.Outcome.{Outcome, taken, refused, _>>=_}
+use Rattle.circuit.specs.Outcome.{taken, refused, _>>=_}
 use Rattle.reader.specs.declared.symbols.Symboled.the-variants.{Comment, Of, Bad}
+use Rattle.reader.specs.declared.line.Cursor.{Cursor}
 use Rattle.text.specs.Line.{lines, before, firstLine}
 use Rattle.text.specs.Numbers.{badSymbol}
-use Rattle.text.specs.Symbol.{Symbol, Symbols, inputLetter, latchLetter, outputLetter, names, positions, symbolOf, symbolLines, isComment, orBadSymbol, isControllable, isControllableName}
+use Rattle.text.specs.Symbol.{Symbol, inputLetter, latchLetter, outputLetter, names, positions, symbolLines, orBadSymbol, isControllable, isControllableName}
 use Rattle.reader.specs.SymbolAs.{Named, Flags, counted, slotOf}
-use Rattle.reader.specs.SymboledAs.{IsSymbol, SymbolAs}
+use Rattle.reader.specs.SymboledAs.{SymbolAs}
 use Rattle.reader.specs.SymbolsAs.{SymbolRoom, SymbolsRead}
-use Rattle.reader.proofs.laws.Position.{first-line-cons, first-line-within, lines-behind}
+use Rattle.reader.proofs.laws.Position.{first-line-cons, lines-behind}
 use Rattle.reader.proofs.laws.SectionLoop.{line-part, line-ends-within}
 
 -- a text that isn't empty has a first line, which isn't empty, and the others stand behind it
@@ -56,13 +57,13 @@ line-positive s at h = rw (drop-cons s at 0 h, first-line-cons) (omega arith)
 data Valid (inputs latches letter position : ℕ) : Type 0 where
   input : letter ≡ inputLetter → position < inputs → slotOf letter position ≡ position → Valid inputs latches letter position
   latch : letter ≡ latchLetter → position < latches → slotOf letter position ≡ base .inputs + position → Valid inputs latches letter position
-  output : letter ≡ outputLetter → position < 1 → slotOf letter position ≡ base .inputs + base .latches + position → Valid inputs latches letter position
+  output : letter ≡ outputLetter → position < base .outputs → slotOf letter position ≡ base .inputs + base .latches + position → Valid inputs latches letter position
 
 valid : (inputs latches letter position : ℕ) → position < positions (counted inputs latches) letter → Valid inputs latches letter position
 unfolding positions counted slotOf
 valid inputs latches letter position h = by (eqb letter inputLetter) (eqb letter latchLetter) (eqb letter outputLetter) refl refl refl h
   where
-    by : (a b c : Bool) → eqb letter inputLetter ≡ a → eqb letter latchLetter ≡ b → eqb letter outputLetter ≡ c → position < cond a inputs (cond b latches (cond c 1 0)) → Valid inputs latches letter position
+    by : (a b c : Bool) → eqb letter inputLetter ≡ a → eqb letter latchLetter ≡ b → eqb letter outputLetter ≡ c → position < cond a inputs (cond b latches (cond c (base .outputs) 0)) → Valid inputs latches letter position
     by true b c e f g l = input (eqb-true _ _ e) l (rw e)
     by false true c e f g l = latch (eqb-true _ _ f) l (rw (e, f))
     by false false true e f g l = output (eqb-true _ _ g) l (rw (e, f))
@@ -155,74 +156,80 @@ module _ (inputs latches : ℕ) (hi : inputs ≤ base .inputs) (hl : latches ≤
       by false e (no d) = rw (elsewhere d) (says position h ∙ ap oneIf (sym (or-false before-it)))
 
 -- what the loop knows: the symbols seen, as the marks and the flags say them, and what is left
-pub record Symbolling (inputs latches place : ℕ) (file : List ℕ) (start : ℕ) (marks flags : List ℕ) (at i : ℕ) : Type 0 where
+pub record Symbolling (inputs latches : ℕ) (file : List ℕ) (from : Cursor) (marks flags : List ℕ) (here : Cursor) : Type 0 where
   pub seen : List Symbol
   pub named : Named inputs latches marks seen
   pub flagged : Flags inputs flags seen
-  pub whole : symbolLines (counted inputs latches) place [] (lines (drop start file)) ≡ symbolLines (counted inputs latches) (place + i) seen (lines (drop at file))
+  pub whole : symbolLines (counted inputs latches) (from .line) [] (lines (drop (from .at) file)) ≡ symbolLines (counted inputs latches) (here .line) seen (lines (drop (here .at) file))
   pub marks-all : length marks ≡ base .inputs + base .latches + base .outputs
   pub flags-all : length flags ≡ inputs
-  pub within : at ≤ length file
-  pub count : i ≤ at
+  pub within : here .at ≤ length file
+  pub line : here .line ≡ from .line + length seen
+  pub count : length seen ≤ here .at
 
-pub symbolling-starts : (inputs latches place : ℕ) (file : List ℕ) (start : ℕ) (marks flags : List ℕ) → SymbolRoom file start place inputs latches marks flags → Symbolling inputs latches place file start marks flags start 0
+pub symbolling-starts : (inputs latches : ℕ) (file : List ℕ) (from : Cursor) (marks flags : List ℕ) → SymbolRoom file from inputs latches marks flags → Symbolling inputs latches file from marks flags from
 unfolding Named Flags among isControllable oneIf
-symbolling-starts inputs latches place file start marks flags room =
+symbolling-starts inputs latches file from marks flags room =
     record {
       seen = [];
       named = λ letter position h. rw (room .marks-none (slotOf letter position));
       flagged = λ position h. room .flags-none position;
-      whole = ap (λ (p : ℕ). symbolLines (counted inputs latches) p [] (lines (drop start file))) (sym (add-zero place));
+      whole = refl;
       marks-all = room .marks-all;
       flags-all = room .flags-all;
       within = room .within;
+      line = sym (add-zero (from .line));
       count = omega arith;
     }
 
-module _ (inputs latches place : ℕ) (file : List ℕ) (start : ℕ) (marks flags : List ℕ) (at i : ℕ) (w : Symbolling inputs latches place file start marks flags at i) where
-  pub symbolling-ends : length file ≤ at → SymbolsRead inputs latches place file start flags
+module _ (inputs latches : ℕ) (file : List ℕ) (from : Cursor) (marks flags : List ℕ) (here : Cursor) (w : Symbolling inputs latches file from marks flags here) where
+  pub symbolling-ends : length file ≤ here .at → SymbolsRead inputs latches file from flags here
   unfolding symbolLines lines
-  symbolling-ends h = record { symbols = w .seen; comment = none; whole = w .whole ∙ rw (drop-of-length-le file {i = at} h); flagged = w .flagged }
+  symbolling-ends h = record { symbols = w .seen; comment = none; whole = w .whole ∙ rest; rest = rest; within = w .within; line = w .line; flagged = w .flagged }
+    where
+      rest : symbolLines (counted inputs latches) (here .line) (w .seen) (lines (drop (here .at) file)) ≡ taken (record { symbols = w .seen; comment = none })
+      rest = rw (drop-of-length-le file {i = here .at} h)
 
-  module _ (more : at < length file) (end : ℕ) (ends : end ≡ at + length (firstLine (drop at file))) where
+  module _ (more : here .at < length file) (end : ℕ) (ends : end ≡ here .at + length (firstLine (drop (here .at) file))) where
     line : List ℕ
-    line = take (end - at) (drop at file)
+    line = take (end - here .at) (drop (here .at) file)
 
     -- the line at hand decides
-    next : symbolLines (counted inputs latches) place [] (lines (drop start file)) ≡ symbolLines (counted inputs latches) (place + i) (w .seen) (line ∷ lines (drop end file))
+    next : symbolLines (counted inputs latches) (here .line) (w .seen) (lines (drop (here .at) file)) ≡ symbolLines (counted inputs latches) (here .line) (w .seen) (line ∷ lines (drop end file))
     unfolding line
-    next = w .whole ∙ ap (symbolLines (counted inputs latches) (place + i) (w .seen)) (line-at file at end more ends ∙ ap {B = List (List ℕ)} (λ l. l ∷ lines (drop end file)) (sym (line-part file at end ends)))
+    next = ap (symbolLines (counted inputs latches) (here .line) (w .seen)) (line-at file (here .at) end more ends ∙ ap {B = List (List ℕ)} (λ l. l ∷ lines (drop end file)) (sym (line-part file (here .at) end ends)))
 
-    pub symbolling-comments : SymbolAs inputs latches marks (take (end - at) (drop at file)) Comment → SymbolsRead inputs latches place file start flags
+    pub symbolling-comments : SymbolAs inputs latches marks (take (end - here .at) (drop (here .at) file)) Comment → SymbolsRead inputs latches file from flags here
     unfolding symbolLines line
-    symbolling-comments e = record { symbols = w .seen; comment = some (flatMap (λ l. l) (lines (drop end file))); whole = next ∙ rw (e, symbolLines); flagged = w .flagged }
+    symbolling-comments e = record { symbols = w .seen; comment = some (flatMap (λ l. l) (lines (drop end file))); whole = w .whole ∙ rest; rest = rest; within = w .within; line = w .line; flagged = w .flagged }
+      where
+        rest : symbolLines (counted inputs latches) (here .line) (w .seen) (lines (drop (here .at) file)) ≡ taken (record { symbols = w .seen; comment = some (flatMap (λ l. l) (lines (drop end file))) })
+        rest = next ∙ rw (e, symbolLines)
 
-    pub symbolling-refuses : SymbolAs inputs latches marks (take (end - at) (drop at file)) Bad → symbolLines (counted inputs latches) place [] (lines (drop start file)) ≡ refused badSymbol (place + i)
+    pub symbolling-refuses : SymbolAs inputs latches marks (take (end - here .at) (drop (here .at) file)) Bad → symbolLines (counted inputs latches) (from .line) [] (lines (drop (from .at) file)) ≡ refused badSymbol (here .line)
     unfolding symbolLines line orBadSymbol
-    symbolling-refuses e = next ∙ rw (e .0, symbolLines, e .1 (w .seen) (w .named))
+    symbolling-refuses e = w .whole ∙ next ∙ rw (e .0, symbolLines, e .1 (w .seen) (w .named))
 
-    pub symbolling-goes-on : inputs ≤ base .inputs → latches ≤ base .latches → (slot position : ℕ) (flag : Bool) (marks′ flags′ : List ℕ) → SymbolAs inputs latches marks (take (end - at) (drop at file)) (Of slot position flag) → marks′ ≡ set marks slot 1 → flags′ ≡ cond flag (set flags position 1) flags → Symbolling inputs latches place file start marks′ flags′ end (i + 1)
+    pub symbolling-goes-on : inputs ≤ base .inputs → latches ≤ base .latches → (slot position : ℕ) (flag : Bool) (marks′ flags′ : List ℕ) → SymbolAs inputs latches marks (take (end - here .at) (drop (here .at) file)) (Of slot position flag) → marks′ ≡ set marks slot 1 → flags′ ≡ cond flag (set flags position 1) flags → Symbolling inputs latches file from marks′ flags′ (record { at = end; line = here .line + 1 })
     unfolding symbolLines line orBadSymbol
     symbolling-goes-on hi hl slot position flag marks′ flags′ e m f =
-        let here = e .1 (w .seen) (w .named) in
-        let s = here .symbol in
-        let at-it : s .position ≡ position = here .at in
-        let low : s .position < positions (counted inputs latches) (s .letter) = subst (λ (p : ℕ). p < positions (counted inputs latches) (s .letter)) (sym at-it) (here .below) in
+        let one = e .1 (w .seen) (w .named) in
+        let s = one .symbol in
+        let at-it : s .position ≡ position = one .at in
+        let low : s .position < positions (counted inputs latches) (s .letter) = subst (λ (p : ℕ). p < positions (counted inputs latches) (s .letter)) (sym at-it) (one .below) in
         rw (m, f)
         (record {
           seen = w .seen ++ (s ∷ []);
-          named = subst (λ (k : ℕ). Named inputs latches (set marks k 1) (w .seen ++ (s ∷ []))) (ap (slotOf (s .letter)) at-it ∙ sym (here .marked)) (named-more inputs latches hi hl s low marks (w .seen) (w .marks-all) (w .named));
-          flagged = subst (λ (p : ℕ). Flags inputs (cond flag (set flags p 1) flags) (w .seen ++ (s ∷ []))) at-it (flags-more inputs latches hi hl s low flags (w .seen) flag (w .flags-all) (here .flagged ∙ ap (λ (p : ℕ). names inputLetter p s && isControllableName (s .name)) (sym at-it)) (w .flagged));
-          whole = next ∙ rw (e .0, symbolLines, here .is) (ap (λ (p : ℕ). symbolLines (counted inputs latches) p (w .seen ++ (s ∷ [])) (lines (drop end file))) one-more);
+          named = subst (λ (k : ℕ). Named inputs latches (set marks k 1) (w .seen ++ (s ∷ []))) (ap (slotOf (s .letter)) at-it ∙ sym (one .marked)) (named-more inputs latches hi hl s low marks (w .seen) (w .marks-all) (w .named));
+          flagged = subst (λ (p : ℕ). Flags inputs (cond flag (set flags p 1) flags) (w .seen ++ (s ∷ []))) at-it (flags-more inputs latches hi hl s low flags (w .seen) flag (w .flags-all) (one .flagged ∙ ap (λ (p : ℕ). names inputLetter p s && isControllableName (s .name)) (sym at-it)) (w .flagged));
+          whole = w .whole ∙ next ∙ rw (e .0, symbolLines, one .is, add-one (here .line));
           marks-all = length-set marks slot 1 ∙ w .marks-all;
           flags-all = kept flag ∙ w .flags-all;
-          within = line-ends-within file at end ends (w .within);
-          count = omega (arith, w .count, line-positive file at more);
+          within = line-ends-within file (here .at) end ends (w .within);
+          line = omega (arith, w .line, length-append (w .seen) (s ∷ []));
+          count = omega (arith, w .count, line-positive file (here .at) more, length-append (w .seen) (s ∷ []));
         })
       where
-        one-more : suc (place + i) ≡ place + (i + 1)
-        one-more = omega arith
-
         kept : (b : Bool) → length (cond b (set flags position 1) flags) ≡ length flags
         kept true = length-set flags position 1
         kept false = refl

@@ -1,31 +1,31 @@
 -- All lines behind the header, as the code holds them. Assumes nothing.
-use Prim.Native.Nat.{ℕ, zero, suc, _+_, _<_, _≤_}
+use Prim.Native.Nat.{ℕ, suc, _+_, _^_, _<_, _≤_}
 use native.Mathlib.Decide.{decLt}
 use native.Mathlib.Omega.{arith}
-use mathlib.Core.Bool.{Bool, true, false, not, cond, _&&_}
+use mathlib.Core.Bool.{Bool, true, false}
 use mathlib.Core.List.{List, [], _∷_, _++_, map}
-use mathlib.Core.Option.{Option, none, some}
-use mathlib.Core.Path.{_≡_, refl, sym, ap, ap₂, _∙_, subst, fun-ext}
-use lib.Dec.{eqb, ltb}
+use mathlib.Core.Option.{Option}
+use mathlib.Core.Path.{_≡_, refl, sym, ap, ap₂, _∙_}
 use lib.ListN.{length, getD, drop}
-use Rattle.below.specs.Among.{among}
 use Rattle.below.specs.Table.{table}
 use Rattle.below.proofs.laws.Table.{getD-table, getD-table-past, map-table, table-getD}
+use Rattle.circuit.specs.Limits.{base}
 use Rattle.circuit.specs.Outcome.{Outcome, taken, refused, _>>=_}
 use Rattle.reader.specs.declared.body.Bodied.{Bodied}
 use Rattle.reader.specs.declared.body.Bodied.the-variants.{Lines, Refused}
 use Rattle.reader.specs.BodyRead.{headerWith, BodyAt, bodyRead}
+use Rattle.reader.specs.declared.line.Cursor.{Cursor}
 use Rattle.text.specs.Header.{Header}
 use Rattle.text.specs.Line.{lines}
 use Rattle.text.specs.Number.{Num, is, bad, number}
 use Rattle.text.specs.Read.{latchOf, gateOf, linesRead}
 use Rattle.reader.specs.SectionAs.{beginning, inputRow, latchRow, gateRow}
+use Rattle.text.specs.Stages.{symbolStage}
 use Rattle.text.specs.Symbol.{Symbol, Symbols, positions, symbolAt, symbolOf, symbolLines, isComment, orBadSymbol}
 use Rattle.reader.specs.SymbolAs.{counted}
-use Rattle.reader.specs.SymbolsAs.{SymbolsRead}
-use Rattle.reader.specs.TextAt.{latchAt, gateAt, TextAt, TextAs, NamedAs}
+use Rattle.reader.specs.TextAt.{latchAt, gateAt, TextAs, NamedAs}
 use Rattle.reader.proofs.laws.LinesLoop.{lines-taken, lines-refused}
-use Rattle.text.proofs.laws.Stages.{symbolStage, fileOf, behindLate}
+use Rattle.text.proofs.laws.Stages.{fileOf, behindLate}
 
 -- symbols look only at how many positions a letter has
 module _ (h k : Header) (same : (letter : ℕ) → positions h letter ≡ positions k letter) where
@@ -59,25 +59,32 @@ module _ (h k : Header) (same : (letter : ℕ) → positions h letter ≡ positi
 pub zeros-at : (n i : ℕ) → _≡_ {A = ℕ} (getD (table (λ j. 0) n) i 0) 0
 zeros-at n i = elim (decLt i n) [ yes h ↦ getD-table (λ j. 0) n i 0 h | no h ↦ getD-table-past (λ j. 0) n i 0 (omega arith) ]
 
-module _ (m inputs latches gates : ℕ) (bytes : List ℕ) (at : ℕ) where
-  pub text-refused : (number place : ℕ) → bodyRead (headerWith m inputs latches gates) (beginning bytes at []) ≡ refused number place → linesRead (headerWith m inputs latches gates) (lines (drop at bytes)) ≡ refused number place
-  unfolding beginning
-  text-refused number place e = lines-refused (headerWith m inputs latches gates) (lines (drop at bytes)) number place e
+-- the line behind the gates has a small number
+pub small-line : (m inputs latches gates line : ℕ) → line ≡ 3 + headerWith m inputs latches gates .inputs + headerWith m inputs latches gates .latches + headerWith m inputs latches gates .gates → inputs ≤ base .inputs → latches ≤ base .latches → gates ≤ base .variable → line < 2 ^ 32
+unfolding headerWith
+small-line m inputs latches gates line e i l g = omega arith
 
-  pub text-as : (input flags latch next gate left right : List ℕ) (behind literal : ℕ) → BodyAt (headerWith m inputs latches gates) bytes at input latch next gate left right behind literal → length input ≡ inputs → (r : Bodied) → NamedAs inputs latches gates bytes behind literal flags r → TextAs (headerWith m inputs latches gates) bytes at input flags latch next gate left right r
+module _ (m inputs latches gates : ℕ) (bytes : List ℕ) (from : Cursor) where
+  pub text-refused : (number place : ℕ) → bodyRead (headerWith m inputs latches gates) (beginning bytes (from .at) []) ≡ refused number place → linesRead (headerWith m inputs latches gates) (lines (drop (from .at) bytes)) ≡ refused number place
+  unfolding beginning
+  text-refused number place e = lines-refused (headerWith m inputs latches gates) (lines (drop (from .at) bytes)) number place e
+
+  pub text-as : (input flags latch next gate left right : List ℕ) (behind : Cursor) (literal : ℕ) → BodyAt (headerWith m inputs latches gates) bytes from input latch next gate left right behind literal → length input ≡ inputs → (r : Bodied) → NamedAs inputs latches bytes behind literal flags r → TextAs (headerWith m inputs latches gates) bytes from input flags latch next gate left right r
   unfolding beginning headerWith inputRow latchRow gateRow latchAt gateAt latchOf gateOf positions counted
   text-as input flags latch next gate left right behind literal w long r h = by r h
     where
       H : Header
       H = headerWith m inputs latches gates
 
-      so : linesRead H (lines (drop at bytes)) ≡ behindLate H (w .bodies .first .inputs) (w .bodies .first .latches) (w .bodies .last .output) (w .bodies .last .gates)
-      so = lines-taken H (lines (drop at bytes)) (w .bodies) (w .whole)
+      so : linesRead H (lines (drop (from .at) bytes)) ≡ behindLate H (w .bodies .first .inputs) (w .bodies .first .latches) (w .bodies .last .output) (w .bodies .last .gates)
+      so = lines-taken H (lines (drop (from .at) bytes)) (w .bodies) (w .whole)
 
-      symbols : symbolStage H (w .bodies .last .gates) ≡ symbolLines (counted inputs latches) (3 + inputs + latches + gates) [] (lines (drop behind bytes))
-      symbols = ap (symbolLines H (3 + inputs + latches + gates) []) (w .rest) ∙ symbol-lines-same H (counted inputs latches) (λ letter. refl) (3 + inputs + latches + gates) [] (lines (drop behind bytes))
+      symbols : symbolStage H (w .bodies .last .gates) ≡ symbolLines (counted inputs latches) (behind .line) [] (lines (drop (behind .at) bytes))
+      symbols =
+          ap₂ (λ (p : ℕ) (ls : List (List ℕ)). symbolLines H p [] ls) (sym (w .line)) (w .rest)
+          ∙ symbol-lines-same H (counted inputs latches) (λ letter. refl) (behind .line) [] (lines (drop (behind .at) bytes))
 
-      by : (s : Bodied) → NamedAs inputs latches gates bytes behind literal flags s → TextAs (headerWith m inputs latches gates) bytes at input flags latch next gate left right s
+      by : (s : Bodied) → NamedAs inputs latches bytes behind literal flags s → TextAs (headerWith m inputs latches gates) bytes from input flags latch next gate left right s
       by (Lines end output) (same, read) =
           rw same
           (record {
@@ -89,5 +96,7 @@ module _ (m inputs latches gates : ℕ) (bytes : List ℕ) (at : ℕ) where
             output = ap (λ (rows : List (List ℕ)). getD (getD rows 0 []) 0 0) (w .output);
             gates = ap (map gateOf) (w .gates) ∙ map-table gateOf (gateRow gate left right) gates;
             flagged = read .flagged;
+            within = read .within;
+            line = read .line ∙ ap (λ (n : ℕ). n + length (read .symbols)) (w .line);
           })
       by (Refused q) e = so ∙ rw (symbols ∙ e)

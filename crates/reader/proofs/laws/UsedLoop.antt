@@ -1,14 +1,14 @@
 -- The late 7, literal by literal. Assumes nothing.
-use Prim.Native.Nat.{ℕ, zero, suc, _+_, _<_, _≤_}
+use Prim.Native.Nat.{ℕ, suc, _+_, _<_, _≤_}
 use native.Mathlib.Numerals.{add-one}
 use native.Mathlib.Omega.{arith}
-use native.Mathlib.Nat.{add-zero, add-suc, suc-add}
-use mathlib.Core.Bool.{Bool, true, false, not, _&&_}
+use native.Mathlib.Nat.{add-zero, add-suc}
+use mathlib.Core.Bool.{Bool, true, false}
 use mathlib.Core.List.{List, [], _∷_, _++_}
 use mathlib.Core.Path.{_≡_, refl, sym, ap, _∙_}
 use lib.ListN.{length, getD, drop, drop-of-length-le}
 use lib.Seq.{drop-cons}
-use Rattle.circuit.specs.Outcome.{Outcome, taken, refused, _>>_, refuseIf}
+use Rattle.circuit.specs.Outcome.{_>>_, refuseIf}
 use Rattle.reader.specs.Marks.{unmarked, Marks}
 use Rattle.text.specs.Numbers.{notDefined}
 use Rattle.text.specs.Rules.{unknown}

@@ -1,20 +1,33 @@
 -- `step::next_state` meets its contract: the bits from i on add up to the state, and i counts down to 0.
-use Prim.Native.Nat.{ℕ, _-_}
+use Prim.Native.Nat.{ℕ, _-_, _^_, _<_, _≤_, min}
 use native.Mathlib.Omega.{arith}
-use mathlib.Core.Path.{_≡_, ap, _∙_, subst}
-use lib.ListN.{getD}
+use mathlib.Core.List.{List}
+use mathlib.Core.Path.{_≡_, sym, ap, _∙_, subst}
+use native.Mathlib.Nat.{pow-le-pow-right}
+use lib.ListN.{length, getD}
 use borrow.Author.Needs.{needs}
 use Rattle.bits.specs.Bit.{oneIf}
+use Rattle.circuit.specs.Limits.{base}
 use Rattle.circuit.specs.Stored.{literalOf}
 use Rattle.step.specs.Truths.{truths}
-use Rattle.step.specs.Value.{literalValue}
-use Rattle.step.proofs.laws.NextIn.{Bits, nextBit, bits-start, bits-next, bits-end, bits-fit}
+use Rattle.step.specs.Value.{Valuation, literalValue}
+use Rattle.step.proofs.laws.FromTop.{FromTop, top-start, top-next, top-end, top-fits}
+use Rattle.step.proofs.laws.NextIn.{nextBit, next-bit-small, next-is-sum}
 use Rattle.step.proofs.laws.Truths.{one-if-bit}
 use Rattle.step.proofs.next_state.Statement.{statement}
 use Rattle.step.proofs.next_state.Tie as tie
 
+fits : (latch next : List ℕ) (val : Valuation) (i state : ℕ) → FromTop (nextBit next val) (min (length latch) (base .latches)) i state → state < 2 ^ base .latches
+fits latch next val i state b = omega (arith, top-fits (nextBit next val) (min (length latch) (base .latches)) (next-bit-small next val) i state b, pow-le-pow-right {n = 2} fewer-two fewer)
+  where
+    fewer-two : 1 ≤ 2
+    fewer-two = omega arith
+
+    fewer : min (length latch) (base .latches) ≤ base .latches
+    fewer = omega arith
+
 abbrev Inv-loop : tie.InvT-loop
-Inv-loop values latch next state₀ i₀ state i = Bits latch next (truths values) i state
+Inv-loop values latch next state₀ i₀ state i = FromTop (nextBit next (truths values)) (min (length latch) (base .latches)) i state
 
 abbrev μ-loop : tie.MeasureT-loop
 μ-loop values latch next state₀ i₀ state i = i
@@ -23,7 +36,7 @@ latches-of-requires : tie.Need-latches-of-requires Inv-loop μ-loop
 latches-of-requires c κs = search needs
 
 loop-holds : tie.Need-loop-holds Inv-loop μ-loop
-loop-holds c = let a = c .before .before .before .before .args in rw (c .latches-of .ensures) (bits-start (a .latch .now) (a .next .now) (truths (a .values .now)))
+loop-holds c = let a = c .before .before .before .before .args in rw (c .latches-of .ensures) (top-start (nextBit (a .next .now) (truths (a .values .now))) (min (length (a .latch .now)) (base .latches)))
 
 sub-i : tie.Need-sub-i Inv-loop μ-loop
 sub-i c = search needs
@@ -40,7 +53,7 @@ one-if-requires c κs = search needs
 mul-state : tie.Need-mul-state Inv-loop μ-loop
 mul-state c = let a = c .before .before .before .before .before .before .before .before .before .args in
     let l = c .before .before .before .before .loop in
-    omega (arith, bits-fit (a .latch .now) (a .next .now) (truths (a .values .now)) (l .i) (l .state) (l .inv))
+    omega (arith, fits (a .latch .now) (a .next .now) (truths (a .values .now)) (l .i) (l .state) (l .inv))
 
 cast-state : tie.Need-cast-state Inv-loop μ-loop
 cast-state c = omega (arith, c .one-if .ensures, one-if-bit (c .before .literal-value .result))
@@ -48,7 +61,7 @@ cast-state c = omega (arith, c .one-if .ensures, one-if-bit (c .before .literal-
 add-state : tie.Need-add-state Inv-loop μ-loop
 add-state c = let a = c .before .before .before .before .before .before .before .before .before .args in
     let l = c .before .before .before .before .loop in
-    omega (arith, bits-fit (a .latch .now) (a .next .now) (truths (a .values .now)) (l .i) (l .state) (l .inv), c .one-if .ensures, one-if-bit (c .before .literal-value .result))
+    omega (arith, fits (a .latch .now) (a .next .now) (truths (a .values .now)) (l .i) (l .state) (l .inv), c .one-if .ensures, one-if-bit (c .before .literal-value .result))
 
 loop-less : tie.Need-loop-less Inv-loop μ-loop
 loop-less c = search needs
@@ -59,12 +72,13 @@ loop-again c = let a = c .before .before .before .before .before .before .before
     let l = c .before .before .before .before .loop in
     let val = truths (a .values .now) in
     let bit : c .one-if .result ≡ oneIf (literalValue val (literalOf (getD (a .next .now) (l .i - 1) 0))) = c .one-if .ensures ∙ ap oneIf (c .before .literal-value .ensures ∙ ap (literalValue val) (c .before .before .literal-at .ensures)) in
-    rw bit (bits-next (a .latch .now) (a .next .now) val (l .i - 1) (l .state) (subst (λ (n : ℕ). Bits (a .latch .now) (a .next .now) val n (l .state)) (omega arith) (l .inv)))
+    rw bit (top-next (nextBit (a .next .now) val) (min (length (a .latch .now)) (base .latches)) (l .i - 1) (l .state) (subst (λ (n : ℕ). FromTop (nextBit (a .next .now) val) (min (length (a .latch .now)) (base .latches)) n (l .state)) (omega arith) (l .inv)))
 
 returns : tie.Need-returns Inv-loop μ-loop
 returns c = let a = c .before .before .before .before .before .before .args in
     let l = c .before .loop in
-    bits-end (a .latch .now) (a .next .now) (truths (a .values .now)) (l .state) (subst (λ (n : ℕ). Bits (a .latch .now) (a .next .now) (truths (a .values .now)) n (l .state)) (omega arith) (l .inv))
+    let f = nextBit (a .next .now) (truths (a .values .now)) in
+    top-end f (min (length (a .latch .now)) (base .latches)) (l .state) (subst (λ (n : ℕ). FromTop f (min (length (a .latch .now)) (base .latches)) n (l .state)) (omega arith) (l .inv)) ∙ sym (next-is-sum (a .latch .now) (a .next .now) (truths (a .values .now)))
 
 pub next-state-spec : {M : Type 1} → statement M
 next-state-spec =

@@ -7,23 +7,17 @@ use mathlib.Core.Logic.{inl, inr}
 use mathlib.Core.Path.{_≡_, refl}
 use lib.ListN.{getD}
 use Rattle.circuit.specs.Outcome.{taken, refused}
+use Rattle.text.specs.BodyBroken.{BodyBroken, inInputs, inLatches, inOutput, inGates, inUse, inSymbols}
+use Rattle.text.specs.Broken.{Broken}
 use Rattle.text.specs.Header.{Header}
 use Rattle.text.specs.Read.{linesRead}
 use Rattle.text.specs.Rules.{Rule, inputRule, latchRule, outputRule, gateRule}
-use Rattle.text.specs.Section.{Body, onward}
-use Rattle.text.proofs.laws.Broken.{Broken, section-broken, broken-section, Unknown, used-unknown, unknown-used, NoSymbol, symbols-broken, broken-symbols}
+use Rattle.text.specs.Section.{Body}
+use Rattle.text.specs.Stages.{inputSection, latchSection, outputSection, gateSection, lateOf, lateStage, symbolStage}
+use Rattle.text.proofs.laws.Broken.{section-broken, broken-section, used-unknown, unknown-used, symbols-broken, broken-symbols}
 use Rattle.text.proofs.laws.Fault.{Fault, FiveToSeven, judged-fault, fault-range, input-numbers, latch-numbers, output-numbers, gate-numbers}
 use Rattle.text.proofs.laws.Outcome.{taken-is-not-refused, bind-refused, then-refused}
-use Rattle.text.proofs.laws.Stages.{inputSection, latchSection, outputSection, gateSection, lateOf, lateStage, symbolStage, fileOf, behindLate, behindGates, behindOutput, behindLatches, behindInputs}
-
--- where the first fault stands
-pub data BodyBroken (h : Header) (rest : List (List ℕ)) (number place : ℕ) : Type 0 where
-  inInputs : Broken (inputRule (h .largest)) (h .inputs) 2 (record { rows = []; defined = []; rest = rest }) number place → BodyBroken h rest number place
-  inLatches : (inputs : Body) → inputSection h rest ≡ taken inputs → Broken (latchRule (h .largest)) (h .latches) (2 + h .inputs) (onward inputs) number place → BodyBroken h rest number place
-  inOutput : (inputs latches : Body) → inputSection h rest ≡ taken inputs → latchSection h inputs ≡ taken latches → Broken (outputRule (h .largest)) 1 (2 + h .inputs + h .latches) (onward latches) number place → BodyBroken h rest number place
-  inGates : (inputs latches output : Body) → inputSection h rest ≡ taken inputs → latchSection h inputs ≡ taken latches → outputSection h latches ≡ taken output → Broken (gateRule (h .largest)) (h .gates) (3 + h .inputs + h .latches) (onward output) number place → BodyBroken h rest number place
-  inUse : (inputs latches output gates : Body) → inputSection h rest ≡ taken inputs → latchSection h inputs ≡ taken latches → outputSection h latches ≡ taken output → gateSection h output ≡ taken gates → Unknown (gates .defined) (2 + h .inputs) (lateOf latches output) number place → BodyBroken h rest number place
-  inSymbols : (inputs latches output gates : Body) → inputSection h rest ≡ taken inputs → latchSection h inputs ≡ taken latches → outputSection h latches ≡ taken output → gateSection h output ≡ taken gates → lateStage h latches output gates ≡ taken tt → NoSymbol h (3 + h .inputs + h .latches + h .gates) [] (gates .rest) number place → BodyBroken h rest number place
+use Rattle.text.proofs.laws.Stages.{fileOf, behindLate, behindGates, behindOutput, behindLatches, behindInputs}
 
 late-broken : (h : Header) (rest : List (List ℕ)) (number place : ℕ) (inputs latches output gates : Body) → inputSection h rest ≡ taken inputs → latchSection h inputs ≡ taken latches → outputSection h latches ≡ taken output → gateSection h output ≡ taken gates → behindGates h inputs latches output gates ≡ refused number place → BodyBroken h rest number place
 late-broken h rest number place inputs latches output gates a b c d e =

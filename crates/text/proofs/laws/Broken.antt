@@ -9,18 +9,17 @@ use mathlib.Core.Option.{Option, none, some}
 use mathlib.Core.Path.{_≡_, refl, sym, ap, _∙_, subst, subst₂}
 use lib.ListN.{length, getD, take}
 use Rattle.circuit.specs.Outcome.{Outcome, taken, refused, refuseIf}
+use Rattle.text.specs.Broken.{next, Broken}
 use Rattle.text.specs.Header.{Header}
 use Rattle.text.specs.Line.{numbersOf}
+use Rattle.text.specs.NoSymbol.{NoSymbol}
 use Rattle.text.specs.Numbers.{badLine, notDefined, badSymbol}
 use Rattle.text.specs.Rules.{Rule, unknown}
 use Rattle.text.specs.Section.{judged, Body, withRow, section, used}
 use Rattle.text.specs.Symbol.{Symbol, symbolOf, isComment, Symbols, orBadSymbol, symbolLines}
+use Rattle.text.specs.Unknown.{Unknown}
 use Rattle.text.proofs.laws.Line.{none-is-not-some}
 use Rattle.text.proofs.laws.Outcome.{refused-is-not-taken, taken-is-not-refused, taken-is, bind-taken, then-taken, refused-number, refused-place, moved}
-
--- how the next line of a section is judged
-abbrev pub next : Rule → ℕ → Body → Outcome (List ℕ)
-next rule place b = judged rule (b .defined) place (numbersOf (rule .count) (getD (b .rest) 0 []))
 
 judged-place : (rule : Rule) (defined : List ℕ) (place : ℕ) (o : Option (List ℕ)) (number at : ℕ) → judged rule defined place o ≡ refused number at → at ≡ place
 unfolding judged
@@ -30,15 +29,6 @@ judged-place rule defined place (some fs) number at e = by (rule .fault defined 
     by : (o : Option ℕ) → rule .fault defined fs ≡ o → at ≡ place
     by none f = absurd (taken-is-not-refused number at fs (rw (f, judged) at e))
     by (some m) f = sym (refused-place {A = List ℕ} m place number at (rw (f, judged) at e))
-
--- a section of n lines from a place on has its first fault at its line of this index: the lines before it are taken
-pub record Broken (rule : Rule) (n start : ℕ) (b : Body) (number place : ℕ) : Type 0 where
-  pub index : ℕ
-  pub within : index < n
-  pub line : place ≡ start + index
-  pub before : Body
-  pub fine : section rule index start b ≡ taken before
-  pub fault : next rule place before ≡ refused number place
 
 later : (rule : Rule) (n start : ℕ) (b : Body) (number place : ℕ) (fs : List ℕ) → next rule start b ≡ taken fs → Broken rule n (suc start) (withRow rule b fs) number place → Broken rule (suc n) start b number place
 unfolding section
@@ -81,15 +71,6 @@ broken-section rule n start b number place k = go (k .index) n start b (k .withi
         let (fs, first, others) = bind-taken (next rule s c) (λ gs. section rule i (suc s) (withRow rule c gs)) (k .before) e in
         rw first (go i m (suc s) (withRow rule c fs) (le-of-suc-le-suc h) (omega (arith, l)) others)
 
--- a literal of a list, one to a line, that is neither a constant nor defined, none before it
-pub record Unknown (defined : List ℕ) (start : ℕ) (ls : List ℕ) (number place : ℕ) : Type 0 where
-  pub index : ℕ
-  pub within : index < length ls
-  pub line : place ≡ start + index
-  pub fine : used defined start (take index ls) ≡ taken tt
-  pub fault : unknown defined (getD ls index 0) ≡ true
-  pub seven : number ≡ notDefined
-
 pub used-unknown : (defined : List ℕ) (start : ℕ) (ls : List ℕ) (number place : ℕ) → used defined start ls ≡ refused number place → Unknown defined start ls number place
 unfolding used refuseIf
 used-unknown defined start [] number place e = absurd (taken-is-not-refused number place tt e)
@@ -113,17 +94,6 @@ unknown-used defined start ls number place k = rw (k .seven) (go ls (k .index) s
     go (m ∷ ms) (suc i) s h l e f =
         let (u, first, others) = then-taken (refuseIf (unknown defined m) notDefined s) (used defined (suc s) (take i ms)) tt e in
         rw first (go ms i (suc s) (le-of-suc-le-suc h) (omega (arith, l)) others f)
-
--- a line behind the gates that is neither a symbol nor `c`, symbols before it
-pub record NoSymbol (h : Header) (start : ℕ) (seen : List Symbol) (ls : List (List ℕ)) (number place : ℕ) : Type 0 where
-  pub index : ℕ
-  pub within : index < length ls
-  pub line : place ≡ start + index
-  pub before : List Symbol
-  pub fine : symbolLines h start seen (take index ls) ≡ taken (record { symbols = before; comment = none })
-  pub other : isComment (getD ls index []) ≡ false
-  pub fault : symbolOf h before (getD ls index []) ≡ none
-  pub eight : number ≡ badSymbol
 
 pub symbols-broken : (h : Header) (start : ℕ) (seen : List Symbol) (ls : List (List ℕ)) (number place : ℕ) → symbolLines h start seen ls ≡ refused number place → NoSymbol h start seen ls number place
 unfolding symbolLines orBadSymbol

@@ -12,6 +12,7 @@ use Rattle.circuit.specs.Circuit.{Latch, Gate}
 use Rattle.circuit.specs.Limits.{Limits}
 use Rattle.circuit.specs.Literal.{variable}
 use Rattle.circuit.specs.Outcome.{taken, refuseIf}
+use Rattle.text.specs.Headed.{rowOf}
 use Rattle.text.specs.Header.{headerOf}
 use Rattle.text.specs.Line.{lines}
 use Rattle.text.specs.Read.{latchOf, gateOf, orBadHeader, linesRead, fileRead}
@@ -20,8 +21,9 @@ use Rattle.text.specs.Section.{section, onward, used}
 use Rattle.text.specs.Symbol.{symbolLines}
 use Rattle.text.specs.TextFile.{TextFile}
 use Rattle.text.specs.WellFormed.{WellFormed, Known, Apart, ofInputsAndLatches, definedIn}
+use Rattle.text.specs.Within.{Within}
 use Rattle.text.specs.Written.{numberLine, textOf}
-use Rattle.text.proofs.laws.Header.{headerFor, rowOf, header-numbers, Within, within-of}
+use Rattle.text.proofs.laws.Header.{headerFor, header-numbers, within-of}
 use Rattle.text.proofs.laws.Lines.{bodyLines, behindText, lines-text}
 use Rattle.text.proofs.laws.Lists.{all-append, all-map, pairs-left, pairs-fresh}
 use Rattle.text.proofs.laws.Rules.{inputRow, latchRow, gateRow, inputs-fine, latches-fine, output-fine, gates-fine, news-items}

@@ -13,32 +13,26 @@ use borrow.Author.Tests.{ltb-true, ltb-false, lt-ltb, le-ltb}
 use Rattle.circuit.specs.Circuit.{Circuit, tooMany}
 use Rattle.circuit.specs.Limits.{Limits}
 use Rattle.circuit.specs.Outcome.{Outcome, taken, refused, refuseIf}
+use Rattle.text.specs.BodyBroken.{BodyBroken}
+use Rattle.text.specs.Headed.{Headed, Headless}
 use Rattle.text.specs.Header.{Header, headerNumbers, headerOf, withinLimits}
 use Rattle.text.specs.Line.{lines}
 use Rattle.text.specs.Numbers.{fileTooLong, badHeader, headerLimit, tooManyInputs}
 use Rattle.text.specs.Read.{orBadHeader, linesRead, fileRead, circuitRead}
+use Rattle.text.specs.Row.{Begun, Row, one, two, three, fourToEight, nine}
 use Rattle.text.specs.TextFile.{TextFile, circuitOf}
-use Rattle.text.proofs.laws.BodyBroken.{BodyBroken, lines-broken, broken-lines, body-range}
-use Rattle.text.proofs.laws.Header.{Headed, read-headed, headed-read, Within, within-is, within-of}
+use Rattle.text.specs.Within.{Within}
+use Rattle.text.proofs.laws.BodyBroken.{lines-broken, broken-lines, body-range}
+use Rattle.text.proofs.laws.Header.{read-headed, headed-read, within-is, within-of}
 use Rattle.text.proofs.laws.Line.{none-is-not-some}
 use Rattle.text.proofs.laws.Outcome.{taken-is-not-refused, taken-is, refused-number, refused-place}
 
--- the file is short enough, its first line is this header, and that is within the limits: 1, 2 and 3 aren't given
-pub record Begun (limits : Limits) (bytes : List ℕ) (h : Header) : Type 0 where
-  pub short : length bytes ≤ limits .file
-  pub headed : Headed bytes h
-  pub within : Within limits h
-
 module _ (limits : Limits) (bytes : List ℕ) where
-  -- no header stands on the first line
-  abbrev pub Headless : Type 0
-  Headless = (h : Header) → Headed bytes h → ⊥
-
   too-long : limits .file < length bytes → circuitRead limits bytes ≡ refused fileTooLong 0
   unfolding circuitRead fileRead refuseIf
   too-long a = rw (lt-ltb (limits .file) (length bytes) a)
 
-  no-header : length bytes ≤ limits .file → Headless → circuitRead limits bytes ≡ refused badHeader 1
+  no-header : length bytes ≤ limits .file → Headless bytes → circuitRead limits bytes ≡ refused badHeader 1
   unfolding circuitRead fileRead refuseIf orBadHeader
   no-header a n = by (headerNumbers (getD (lines bytes) 0 [])) refl
     where
@@ -74,7 +68,7 @@ module _ (limits : Limits) (bytes : List ℕ) where
   -- how reading came out, in the order of the numbers
   pub data Came : Type 0 where
     long : limits .file < length bytes → Came
-    headless : length bytes ≤ limits .file → Headless → Came
+    headless : length bytes ≤ limits .file → Headless bytes → Came
     limited : length bytes ≤ limits .file → (h : Header) → Headed bytes h → (Within limits h → ⊥) → Came
     broken : (h : Header) (number place : ℕ) → Begun limits bytes h → BodyBroken h (drop 1 (lines bytes)) number place → Came
     crowded : (f : TextFile) → fileRead limits bytes ≡ taken f → tooMany limits (circuitOf f) ≡ true → Came
@@ -106,15 +100,7 @@ module _ (limits : Limits) (bytes : List ℕ) where
       by true e = long (ltb-true _ _ e)
       by false e = first (ltb-false _ _ e) (headerNumbers (getD (lines bytes) 0 [])) refl
 
-  -- the table: a number with its place, and when they are given
-  pub data Row (number place : ℕ) : Type 0 where
-    one : number ≡ fileTooLong → place ≡ 0 → limits .file < length bytes → Row number place
-    two : number ≡ badHeader → place ≡ 1 → length bytes ≤ limits .file → Headless → Row number place
-    three : number ≡ headerLimit → place ≡ 1 → length bytes ≤ limits .file → (h : Header) → Headed bytes h → (Within limits h → ⊥) → Row number place
-    fourToEight : (h : Header) → Begun limits bytes h → BodyBroken h (drop 1 (lines bytes)) number place → Row number place
-    nine : number ≡ tooManyInputs → place ≡ 0 → (f : TextFile) → fileRead limits bytes ≡ taken f → tooMany limits (circuitOf f) ≡ true → Row number place
-
-  row-refused : (number place : ℕ) → Row number place → circuitRead limits bytes ≡ refused number place
+  row-refused : (number place : ℕ) → Row limits bytes number place → circuitRead limits bytes ≡ refused number place
   row-refused number place (one n p a) = rw (n, p) (too-long a)
   row-refused number place (two n p a b) = rw (n, p) (no-header a b)
   row-refused number place (three n p a h t w) = rw (n, p) (past-limit a h t w)
@@ -125,10 +111,10 @@ module _ (limits : Limits) (bytes : List ℕ) where
   same : (number place m q : ℕ) → circuitRead limits bytes ≡ refused number place → circuitRead limits bytes ≡ refused m q → (number ≡ m) × (place ≡ q)
   same number place m q e f = (refused-number number place m q (sym e ∙ f), refused-place number place m q (sym e ∙ f))
 
-  refused-row : (number place : ℕ) → circuitRead limits bytes ≡ refused number place → Row number place
+  refused-row : (number place : ℕ) → circuitRead limits bytes ≡ refused number place → Row limits bytes number place
   refused-row number place e = by came
     where
-      by : Came → Row number place
+      by : Came → Row limits bytes number place
       by (long a) = let (n, p) = same number place fileTooLong 0 e (too-long a) in one n p a
       by (headless a b) = let (n, p) = same number place badHeader 1 e (no-header a b) in two n p a b
       by (limited a h t w) = let (n, p) = same number place headerLimit 1 e (past-limit a h t w) in three n p a h t w
@@ -139,24 +125,24 @@ module _ (limits : Limits) (bytes : List ℕ) where
       by (fine f g t) = absurd (taken-is-not-refused number place (circuitOf f) (sym (circuit-taken f g t) ∙ e))
 
   -- a file is refused with a number and a place exactly if the table says so
-  pub refused-exactly : (number place : ℕ) → (circuitRead limits bytes ≡ refused number place) ↔ Row number place
+  pub refused-exactly : (number place : ℕ) → (circuitRead limits bytes ≡ refused number place) ↔ Row limits bytes number place
   refused-exactly number place = (refused-row number place, row-refused number place)
 
   -- and row by row
   pub one-exactly : (place : ℕ) → (circuitRead limits bytes ≡ refused fileTooLong place) ↔ ((limits .file < length bytes) × (place ≡ 0))
   one-exactly place = (λ e. by (refused-row fileTooLong place e), λ t. row-refused fileTooLong place (one refl (t .1) (t .0)))
     where
-      by : Row fileTooLong place → (limits .file < length bytes) × (place ≡ 0)
+      by : Row limits bytes fileTooLong place → (limits .file < length bytes) × (place ≡ 0)
       by (one n p a) = (a, p)
       by (two n p a b) = absurd (omega (arith, n))
       by (three n p a h t w) = absurd (omega (arith, n))
       by (fourToEight h b k) = absurd (omega (arith, body-range h (drop 1 (lines bytes)) fileTooLong place k .0))
       by (nine n p f e t) = absurd (omega (arith, n))
 
-  pub two-exactly : (place : ℕ) → (circuitRead limits bytes ≡ refused badHeader place) ↔ ((length bytes ≤ limits .file) × Headless × (place ≡ 1))
+  pub two-exactly : (place : ℕ) → (circuitRead limits bytes ≡ refused badHeader place) ↔ ((length bytes ≤ limits .file) × Headless bytes × (place ≡ 1))
   two-exactly place = (λ e. by (refused-row badHeader place e), λ t. row-refused badHeader place (two refl (t .2) (t .0) (t .1)))
     where
-      by : Row badHeader place → (length bytes ≤ limits .file) × Headless × (place ≡ 1)
+      by : Row limits bytes badHeader place → (length bytes ≤ limits .file) × Headless bytes × (place ≡ 1)
       by (one n p a) = absurd (omega (arith, n))
       by (two n p a b) = (a, b, p)
       by (three n p a h t w) = absurd (omega (arith, n))
@@ -166,7 +152,7 @@ module _ (limits : Limits) (bytes : List ℕ) where
   pub three-exactly : (place : ℕ) → (circuitRead limits bytes ≡ refused headerLimit place) ↔ ((h : Header) × (length bytes ≤ limits .file) × Headed bytes h × (Within limits h → ⊥) × (place ≡ 1))
   three-exactly place = (λ e. by (refused-row headerLimit place e), λ t. row-refused headerLimit place (three refl (t .4) (t .1) (t .0) (t .2) (t .3)))
     where
-      by : Row headerLimit place → (h : Header) × (length bytes ≤ limits .file) × Headed bytes h × (Within limits h → ⊥) × (place ≡ 1)
+      by : Row limits bytes headerLimit place → (h : Header) × (length bytes ≤ limits .file) × Headed bytes h × (Within limits h → ⊥) × (place ≡ 1)
       by (one n p a) = absurd (omega (arith, n))
       by (two n p a b) = absurd (omega (arith, n))
       by (three n p a h t w) = (h, a, t, w, p)
@@ -176,7 +162,7 @@ module _ (limits : Limits) (bytes : List ℕ) where
   pub four-to-eight-exactly : (number place : ℕ) → 4 ≤ number → number ≤ 8 → (circuitRead limits bytes ≡ refused number place) ↔ ((h : Header) × Begun limits bytes h × BodyBroken h (drop 1 (lines bytes)) number place)
   four-to-eight-exactly number place low high = (λ e. by (refused-row number place e), λ t. row-refused number place (fourToEight (t .0) (t .1) (t .2)))
     where
-      by : Row number place → (h : Header) × Begun limits bytes h × BodyBroken h (drop 1 (lines bytes)) number place
+      by : Row limits bytes number place → (h : Header) × Begun limits bytes h × BodyBroken h (drop 1 (lines bytes)) number place
       by (one n p a) = absurd (omega (arith, n, low))
       by (two n p a b) = absurd (omega (arith, n, low))
       by (three n p a h t w) = absurd (omega (arith, n, low))
@@ -186,7 +172,7 @@ module _ (limits : Limits) (bytes : List ℕ) where
   pub nine-exactly : (place : ℕ) → (circuitRead limits bytes ≡ refused tooManyInputs place) ↔ ((f : TextFile) × (fileRead limits bytes ≡ taken f) × (tooMany limits (circuitOf f) ≡ true) × (place ≡ 0))
   nine-exactly place = (λ e. by (refused-row tooManyInputs place e), λ t. row-refused tooManyInputs place (nine refl (t .3) (t .0) (t .1) (t .2)))
     where
-      by : Row tooManyInputs place → (f : TextFile) × (fileRead limits bytes ≡ taken f) × (tooMany limits (circuitOf f) ≡ true) × (place ≡ 0)
+      by : Row limits bytes tooManyInputs place → (f : TextFile) × (fileRead limits bytes ≡ taken f) × (tooMany limits (circuitOf f) ≡ true) × (place ≡ 0)
       by (one n p a) = absurd (omega (arith, n))
       by (two n p a b) = absurd (omega (arith, n))
       by (three n p a h t w) = absurd (omega (arith, n))

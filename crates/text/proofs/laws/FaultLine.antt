@@ -9,16 +9,19 @@ use mathlib.Core.Path.{_≡_, refl, sym, ap, _∙_, subst}
 use lib.ListN.{getD, drop}
 use lib.Seq.{drop-nil, drop-drop, getD-drop}
 use Rattle.circuit.specs.Outcome.{taken}
+use Rattle.text.specs.BodyBroken.{BodyBroken, inInputs, inLatches, inOutput, inGates, inUse, inSymbols}
+use Rattle.text.specs.Broken.{next, Broken}
 use Rattle.text.specs.Header.{Header}
+use Rattle.text.specs.NoSymbol.{NoSymbol}
 use Rattle.text.specs.Numbers.{badSymbol}
 use Rattle.text.specs.Rules.{Rule, inputRule, latchRule, outputRule, gateRule}
 use Rattle.text.specs.Section.{Body, withRow, section, onward}
+use Rattle.text.specs.Stages.{unread, inputSection, latchSection, outputSection, gateSection}
 use Rattle.text.specs.Symbol.{Symbol, isComment, symbolOf}
-use Rattle.text.proofs.laws.BodyBroken.{BodyBroken, inInputs, inLatches, inOutput, inGates, inUse, inSymbols, broken-fault}
-use Rattle.text.proofs.laws.Broken.{Broken, Unknown, NoSymbol, next}
+use Rattle.text.specs.Unknown.{Unknown}
+use Rattle.text.proofs.laws.BodyBroken.{broken-fault}
 use Rattle.text.proofs.laws.Fault.{Fault}
 use Rattle.text.proofs.laws.Outcome.{bind-taken, taken-is}
-use Rattle.text.proofs.laws.Stages.{inputSection, latchSection, outputSection, gateSection}
 
 drop-one-more : (n : ℕ) (ls : List (List ℕ)) → drop n (drop 1 ls) ≡ drop (suc n) ls
 drop-one-more n [] = drop-nil n
@@ -55,7 +58,7 @@ stage-drops rest m rule n place b after e s = section-drops rule n place b after
 
 module _ (h : Header) (rest : List (List ℕ)) where
   behind-inputs : (inputs : Body) → inputSection h rest ≡ taken inputs → inputs .rest ≡ drop (h .inputs) rest
-  behind-inputs inputs a = section-drops (inputRule (h .largest)) (h .inputs) 2 (record { rows = []; defined = []; rest = rest }) inputs a
+  behind-inputs inputs a = section-drops (inputRule (h .largest)) (h .inputs) 2 (unread rest) inputs a
 
   behind-latches : (inputs latches : Body) → inputSection h rest ≡ taken inputs → latchSection h inputs ≡ taken latches → latches .rest ≡ drop (h .inputs + h .latches) rest
   unfolding onward
@@ -77,7 +80,7 @@ module _ (h : Header) (rest : List (List ℕ)) where
 
   pub body-at : (number place : ℕ) → BodyBroken h rest number place → At h rest number place
   unfolding inputRule latchRule outputRule gateRule onward
-  body-at number place (inInputs k) = on-line h rest 0 (inputRule (h .largest)) 0 (h .inputs) 2 (record { rows = []; defined = []; rest = rest }) number place refl refl refl k
+  body-at number place (inInputs k) = on-line h rest 0 (inputRule (h .largest)) 0 (h .inputs) 2 (unread rest) number place refl refl refl k
   body-at number place (inLatches inputs a k) = on-line h rest (h .inputs) (latchRule (h .largest)) 1 (h .latches) (2 + h .inputs) (onward inputs) number place refl (behind-inputs inputs a) refl k
   body-at number place (inOutput inputs latches a b k) = on-line h rest (h .inputs + h .latches) (outputRule (h .largest)) 0 1 (2 + h .inputs + h .latches) (onward latches) number place refl (behind-latches inputs latches a b) (omega arith) k
   body-at number place (inGates inputs latches output a b c k) = on-line h rest (h .inputs + h .latches + 1) (gateRule (h .largest)) 2 (h .gates) (3 + h .inputs + h .latches) (onward output) number place refl (behind-output inputs latches output a b c) (omega arith) k

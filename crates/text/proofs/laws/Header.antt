@@ -1,6 +1,6 @@
 -- The first line (01, "The file", rule 1): the header is taken exactly if it is the word and five numbers, and passes exactly if it is within
 -- the limits. Assumes nothing.
-use Prim.Native.Nat.{ℕ, _+_, _^_, _≤_}
+use Prim.Native.Nat.{ℕ, _+_, _^_}
 use native.Mathlib.Omega.{arith}
 use mathlib.Core.Bool.{Bool, true, false, _&&_}
 use mathlib.Core.List.{List, [], _∷_, _++_, flatMap}
@@ -14,11 +14,13 @@ use Rattle.bits.specs.Digits.{AllBelow}
 use Rattle.bits.proofs.laws.Bytes.{both-true, starts-with-splits}
 use Rattle.circuit.specs.Limits.{Limits}
 use Rattle.circuit.specs.Outcome.{taken}
+use Rattle.text.specs.Headed.{rowOf, Headed}
 use Rattle.text.specs.Header.{Header, word, headerNumbers, headerOf, withinLimits}
 use Rattle.text.specs.Line.{lines}
 use Rattle.text.specs.Numbers.{badHeader}
 use Rattle.text.specs.Read.{orBadHeader}
 use Rattle.text.specs.TextFile.{TextFile}
+use Rattle.text.specs.Within.{Within}
 use Rattle.text.specs.Written.{numberLine}
 use Rattle.text.proofs.laws.Line.{IsLine, lines-first, LineIs, numbers-line, numbers-is, number-line-is-line, flat-lines, none-is-not-some}
 use Rattle.text.proofs.laws.Outcome.{refused-is-not-taken, taken-is}
@@ -34,10 +36,6 @@ headerFor f =
       gates = length (f .gates);
     }
 
--- the numbers of a header
-abbrev pub rowOf : Header → List ℕ
-rowOf h = h .largest ∷ h .inputs ∷ h .latches ∷ h .outputs ∷ h .gates ∷ []
-
 five : (fs : List ℕ) → length fs ≡ 5 → fs ≡ rowOf (headerOf fs)
 unfolding headerOf
 five [] e = absurd (omega (arith, e))
@@ -47,12 +45,6 @@ five (a ∷ b ∷ c ∷ []) e = absurd (omega (arith, e))
 five (a ∷ b ∷ c ∷ d ∷ []) e = absurd (omega (arith, e))
 five (a ∷ b ∷ c ∷ d ∷ g ∷ []) e = refl
 five (a ∷ b ∷ c ∷ d ∷ g ∷ x ∷ xs) e = absurd (omega (arith, e))
-
--- a text whose first line is the word and the five numbers of a header
-pub record Headed (bytes : List ℕ) (h : Header) : Type 0 where
-  pub rest : List ℕ
-  pub text : bytes ≡ word ++ numberLine (rowOf h) ++ rest
-  pub below : AllBelow (10 ^ 7) (rowOf h)
 
 pub header-is-line : (h : Header) → IsLine (word ++ numberLine (rowOf h))
 header-is-line h =
@@ -103,14 +95,6 @@ header-taken bytes h e = by (headerNumbers (getD (lines bytes) 0 [])) refl e
     by : (o : Option (List ℕ)) → headerNumbers (getD (lines bytes) 0 []) ≡ o → orBadHeader o ≡ taken h → Headed bytes h
     by none f t = absurd (refused-is-not-taken badHeader 1 h t)
     by (some fs) f t = subst (Headed bytes) (taken-is (headerOf fs) h t) (read-headed bytes fs f)
-
--- what the limits ask of a header
-pub record Within (limits : Limits) (h : Header) : Type 0 where
-  pub largest : h .largest ≤ limits .variable
-  pub inputs : h .inputs ≤ limits .inputs
-  pub latches : h .latches ≤ limits .latches
-  pub outputs : h .outputs ≡ limits .outputs
-  pub room : h .inputs + h .latches + h .gates ≤ h .largest
 
 pub within-is : (limits : Limits) (h : Header) → withinLimits limits h ≡ true → Within limits h
 unfolding withinLimits

@@ -3,11 +3,12 @@
 use Prim.Native.Nat.{ℕ}
 use mathlib.Core.List.{List, [], _∷_, _++_, map, flatMap, append-assoc}
 use mathlib.Core.Path.{_≡_, refl, ap, _∙_}
+use Rattle.text.specs.Headed.{rowOf}
 use Rattle.text.specs.Header.{word}
 use Rattle.text.specs.Line.{lines}
 use Rattle.text.specs.TextFile.{TextFile}
 use Rattle.text.specs.Written.{numberLine, symbolLine, commentText, textOf}
-use Rattle.text.proofs.laws.Header.{rowOf, headerFor, header-is-line}
+use Rattle.text.proofs.laws.Header.{headerFor, header-is-line}
 use Rattle.text.proofs.laws.Line.{lines-first, lines-rows, number-line-is-line}
 use Rattle.text.proofs.laws.Rules.{inputRow, latchRow, gateRow}
 

@@ -9,6 +9,7 @@ use mathlib.Core.Path.{_≡_}
 use lib.ListN.{length, length-append}
 use Rattle.bits.specs.Digits.{AllBelow}
 use Rattle.circuit.specs.Limits.{base}
+use Rattle.text.specs.Headed.{rowOf}
 use Rattle.text.specs.Header.{word}
 use Rattle.text.specs.InList.{All}
 use Rattle.text.specs.Number.{decimal}
@@ -16,7 +17,7 @@ use Rattle.text.specs.Symbol.{Symbol, prefix}
 use Rattle.text.specs.TextFile.{TextFile}
 use Rattle.text.specs.WellFormed.{Defining, LatchLine, GateLine}
 use Rattle.text.specs.Written.{numberLine, symbolLine, commentText, textOf}
-use Rattle.text.proofs.laws.Header.{headerFor, rowOf}
+use Rattle.text.proofs.laws.Header.{headerFor}
 use Rattle.text.proofs.laws.Lists.{all-weaker}
 use Rattle.text.proofs.laws.Number.{decimal-length}
 use Rattle.text.proofs.laws.PrintedSymbols.{PrintedAt}

@@ -11,6 +11,7 @@ use Rattle.circuit.specs.Circuit.{Latch, Gate}
 use Rattle.circuit.specs.Limits.{Limits}
 use Rattle.circuit.specs.Literal.{variable}
 use Rattle.circuit.specs.Outcome.{taken}
+use Rattle.text.specs.Headed.{rowOf, Headed}
 use Rattle.text.specs.Header.{Header, word}
 use Rattle.text.specs.InList.{All, Pairs}
 use Rattle.text.specs.Line.{lines}
@@ -20,8 +21,9 @@ use Rattle.text.specs.Rules.{inputRule, latchRule, outputRule, gateRule}
 use Rattle.text.specs.Section.{onward}
 use Rattle.text.specs.TextFile.{TextFile}
 use Rattle.text.specs.WellFormed.{WellFormed, Defining, LatchLine, GateLine, Known, Operands, Apart, SymbolLine, ofInputsAndLatches, definedIn}
+use Rattle.text.specs.Within.{Within}
 use Rattle.text.specs.Written.{numberLine, symbolLine, commentText, textOf}
-use Rattle.text.proofs.laws.Header.{headerFor, rowOf, Headed, headed-lines, header-taken, Within, within-is}
+use Rattle.text.proofs.laws.Header.{headerFor, headed-lines, header-taken, within-is}
 use Rattle.text.proofs.laws.Line.{flat-lines}
 use Rattle.text.proofs.laws.Lines.{behindText, text-by-rows}
 use Rattle.text.proofs.laws.Lists.{Fresh, all-left, all-right, all-map, map-all, fresh-pairs}

@@ -26,7 +26,8 @@ use Rattle.records.proofs.laws.Lengths.{length-region, length-replies, length-a
 use Rattle.solver.specs.Over.{rankZero, replyOver, attackOver}
 use Rattle.writer.specs.Answer.{CertifiedAs}
 use Rattle.writer.specs.Certificate.{replyCertificate, attackCertificate}
-use Rattle.writer.specs.Rows.{regionByte, attackRow}
+use Rattle.solver.specs.RegionTable.{regionByte}
+use Rattle.writer.specs.Rows.{attackRow}
 use Rattle.writer.specs.Solved.{Solved}
 use Rattle.writer.specs.declared.Certified.the-variants.{Realizable, Unrealizable, Refused}
 use Rattle.writer.proofs.laws.Certified.{wrote-record, wrote-replies, wrote-attacks, certified-replies, certified-attacks, certified-refused, replies-of, attacks-of}

@@ -53,11 +53,11 @@ both-not true b h = ap not (h refl)
 both-not false b h = refl
 
 module _ (c : Circuit) where
-  holds-is : (s : ℕ) → s < circuitGame c .states → holdsState (ownRegion c) (latchCount c) s ≡ inRegion (circuitGame c) s
+  pub holds-is : (s : ℕ) → s < circuitGame c .states → holdsState (ownRegion c) (latchCount c) s ≡ inRegion (circuitGame c) s
   unfolding ownRegion circuitGame
   holds-is s h = region-holds (inRegion (circuitGame c)) (latchCount c) s h
 
-  stored-is : (s r : ℕ) → s < circuitGame c .states → r < circuitGame c .readings → storedReply (ownReplies c) (latchCount c) (uncontrollableCount c) s r ≡ reply (circuitGame c) s r
+  pub stored-is : (s r : ℕ) → s < circuitGame c .states → r < circuitGame c .readings → storedReply (ownReplies c) (latchCount c) (uncontrollableCount c) s r ≡ reply (circuitGame c) s r
   unfolding ownReplies circuitGame
   stored-is s r h l = reply-back (reply (circuitGame c)) (latchCount c) (uncontrollableCount c) s r h l
 
@@ -101,11 +101,11 @@ module _ (c : Circuit) (few : latchCount c ≤ base .latches) where
   unfolding circuitGame
   small s = omega (arith, rank-at-most (circuitGame c) s, pow-mono {i = latchCount c} {j = base .latches} few)
 
-  rank-is : (s : ℕ) → s < circuitGame c .states → storedRank (ownAttacks c) (latchCount c) s ≡ rank (circuitGame c) s
+  pub rank-is : (s : ℕ) → s < circuitGame c .states → storedRank (ownAttacks c) (latchCount c) s ≡ rank (circuitGame c) s
   unfolding ownAttacks circuitGame
   rank-is s h = rank-back (rank (circuitGame c)) (attack (circuitGame c)) (latchCount c) s h (small s)
 
-  attack-is : (s : ℕ) → s < circuitGame c .states → storedAttack (ownAttacks c) (latchCount c) s ≡ attack (circuitGame c) s
+  pub attack-is : (s : ℕ) → s < circuitGame c .states → storedAttack (ownAttacks c) (latchCount c) s ≡ attack (circuitGame c) s
   unfolding ownAttacks circuitGame
   attack-is s h = attack-back (rank (circuitGame c)) (attack (circuitGame c)) (latchCount c) s h
 

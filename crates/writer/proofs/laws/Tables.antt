@@ -33,7 +33,8 @@ use Rattle.solver.specs.RankTable.{rankTable}
 use Rattle.solver.proofs.laws.RankTable.{rank-in-table}
 use Rattle.solver.proofs.laws.Solution.{solved-reply, solved-attack}
 use Rattle.solver.proofs.laws.Solved.{small-solvable}
-use Rattle.writer.specs.Rows.{regionByte, attackRow}
+use Rattle.solver.specs.RegionTable.{regionByte}
+use Rattle.writer.specs.Rows.{attackRow}
 use Rattle.writer.specs.Solved.{Solved}
 
 module _ (c : Circuit) (states readings controls : ℕ) (ranks : List ℕ) (solved : Solved c states readings controls ranks) where

@@ -38,6 +38,15 @@ fn soup(net: &mut Net, random: &mut Random) {
     }
 }
 
+/// Random gates that nothing needs, up to so many gates in all.
+pub fn pad(net: &mut Net, random: &mut Random, most: usize) {
+    let gates = random.between(net.gates.len(), most);
+    while net.gates.len() < gates {
+        let (left, right) = (anything(net, random), anything(net, random));
+        net.and(left, right);
+    }
+}
+
 /// The state counts up while enabled, may be cleared, and errs at its end.
 fn counter(net: &mut Net, random: &mut Random) {
     let enable = drive(net, random);

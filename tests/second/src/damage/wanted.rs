@@ -54,6 +54,22 @@ pub fn any(random: &mut Random) -> Draft {
     of_shape(random, shape)
 }
 
+/// A random well-formed file at the limits of L, U and C. Gates that nothing
+/// needs make some of them long.
+pub fn full(random: &mut Random) -> Draft {
+    let mut net = net(random, LIMITS);
+    if random.chance(20) {
+        styles::pad(&mut net, random, 400);
+    }
+    draft(&net, random)
+}
+
+const LIMITS: Shape = Shape {
+    latches: 10,
+    uncontrollable: 5,
+    controllable: 8,
+};
+
 #[derive(Clone, Copy)]
 pub struct Shape {
     pub latches: usize,
@@ -62,12 +78,17 @@ pub struct Shape {
 }
 
 pub fn of_shape(random: &mut Random, shape: Shape) -> Draft {
+    let net = net(random, shape);
+    draft(&net, random)
+}
+
+fn net(random: &mut Random, shape: Shape) -> Net {
     let mut controllable = vec![false; shape.uncontrollable];
     controllable.resize(shape.uncontrollable + shape.controllable, true);
     random.shuffle(&mut controllable);
     let mut net = Net::new(controllable, shape.latches);
     styles::fill(&mut net, random);
-    draft(&net, random)
+    net
 }
 
 fn shape(random: &mut Random, wanted: Wanted) -> Shape {

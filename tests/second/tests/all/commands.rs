@@ -81,7 +81,9 @@ fn generated_and_counted() {
     assert!(counted.starts_with("realizable "));
     said(&["generate-certificates", "3", "100", "pairs"], &at);
     assert!(at.join("pairs/0099.cert").exists());
-    assert!(said(&["count-certificates", "pairs"], &at).contains("refused 15: "));
+    let counted = said(&["count-certificates", "pairs"], &at);
+    assert!(counted.contains("passed with a rank above 2^L "));
+    assert!(counted.contains("refused 15: "));
 }
 
 #[test]

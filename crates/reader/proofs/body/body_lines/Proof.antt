@@ -1,11 +1,11 @@
 -- `reader::body::body_lines` meets its contract: inputs and latches, output and gates, then what is used. Assumes nothing.
-use Prim.Native.Nat.{ℕ, _+_}
+use Prim.Native.Nat.{ℕ}
 use borrow.Author.Needs.{needs}
 use lib.ListN.{length}
-use mathlib.Core.Path.{_≡_, refl, sym, ap, _∙_, subst, subst₂}
+use mathlib.Core.Path.{_∙_, subst}
 use native.Mathlib.Omega.{arith}
 use Rattle.reader.proofs.laws.BodyLoop.{body-refused, body-refused-last, body-as}
-use Rattle.reader.specs.BodyRead.{headerWith, FirstAs, LastAs}
+use Rattle.reader.specs.BodyRead.{FirstAs, LastAs}
 use Rattle.reader.specs.UsedAs.{UsedLines}
 use Rattle.reader.proofs.body.body_lines.Statement.{statement}
 use Rattle.reader.proofs.body.body_lines.Tie as tie
@@ -16,22 +16,20 @@ first-lines-requires c κs = search needs
 enum-known-r : tie.Need-enum-known-r
 enum-known-r c = search needs
 
-enum-known-at : tie.Need-enum-known-at
-enum-known-at c = search needs
+enum-known-middle : tie.Need-enum-known-middle
+enum-known-middle c = search needs
 
 last-lines-requires : tie.Need-last-lines-requires
 last-lines-requires c κs =
     let a = c .before .before .before .before .before .before .before .before .before .before .before .before .before .before .before .before .before .before .before .before .before .before .before .before .before .before .before .before .args in
     let p = c .before .before .before .before .before .before .before .before .before .before .before .before .before .before .before .before .before .before .before .before .before .before .before .before .before .before .before .before .pre in
     let f = c .before .before .before .before .before .before .before .before .before .before .before .before .before .before .before .first-lines in
-    let w = subst (FirstAs (headerWith (a .m) (length (a .input .now)) (length (a .latch .now)) (length (a .gate .now))) (a .s .now) (a .from) (f .last .1 .1 .1 .1 .0) (f .last .1 .1 .1 .1 .1 .0) (f .last .1 .1 .1 .1 .1 .1 .0) (f .last .1 .1 .1 .1 .1 .1 .1 .0)) (c .before .before .before .before .before .at .given .1) (f .ensures) in
+    let w = subst (FirstAs (a .m) (length (a .input .now)) (length (a .latch .now)) (a .s .now) (a .from) (f .last .1 .1 .1 .0) (f .last .1 .1 .1 .1 .0) (f .last .1 .1 .1 .1 .1 .0) (f .last .1 .1 .1 .1 .1 .1 .0)) (c .before .before .before .before .before .middle .given .1) (f .ensures) in
     record {
       within = w .within;
+      places = omega (arith, w .line, p .second, p .inputs, p .latches, p .gates);
       largest = p .first .largest;
-      marks-all = f .kept .1 .1 .1 .1 .0 ∙ p .first .marks-all;
-      inputs-most = omega (arith, f .kept .1 .1 .1 .1 .1 .0, p .first .inputs);
-      latches-most = omega (arith, f .kept .1 .1 .1 .1 .1 .1 .0, p .first .latches);
-      gates = p .gates;
+      marks-all = f .kept .1 .1 .1 .0 ∙ p .first .marks-all;
       lefts = p .lefts;
       rights = p .rights;
     }
@@ -44,10 +42,9 @@ enum-known-behind c = search needs
 
 used-lines-requires : tie.Need-used-lines-requires
 used-lines-requires c κs =
-    let a = c .before .before .before .before .before .before .before .before .before .before .before .before .before .before .before .before .before .before .before .before .before .before .before .before .before .before .before .before .before .before .before .before .before .before .before .before .before .before .before .before .before .before .args in
     let p = c .before .before .before .before .before .before .before .before .before .before .before .before .before .before .before .before .before .before .before .before .before .before .before .before .before .before .before .before .before .before .before .before .before .before .before .before .before .before .before .before .before .before .pre in
     let f = c .before .before .before .before .before .before .before .before .before .before .before .before .before .before .before .before .before .before .before .before .before .before .before .before .before .before .before .before .before .first-lines in
-    (omega (arith, f .kept .1 .1 .1 .1 .1 .0, p .first .inputs), omega (arith, f .kept .1 .1 .1 .1 .1 .1 .1 .0, p .first .nexts, p .first .latches))
+    (omega (arith, f .kept .1 .1 .1 .1 .0, p .inputs), omega (arith, f .kept .1 .1 .1 .1 .1 .1 .0, p .first .nexts, p .latches))
 
 same-length : tie.Need-same-length
 same-length c = search needs
@@ -66,8 +63,8 @@ returns c =
     let a = c .before .before .before .before .before .before .before .before .before .before .before .before .before .before .before .before .before .before .before .before .before .before .before .before .args in
     let p = c .before .before .before .before .before .before .before .before .before .before .before .before .before .before .before .before .before .before .before .before .before .before .before .before .pre in
     let f = c .before .before .before .before .before .before .before .before .before .before .before .first-lines in
-    let w = subst (FirstAs (headerWith (a .m) (length (a .input .now)) (length (a .latch .now)) (length (a .gate .now))) (a .s .now) (a .from) (f .last .1 .1 .1 .1 .0) (f .last .1 .1 .1 .1 .1 .0) (f .last .1 .1 .1 .1 .1 .1 .0) (f .last .1 .1 .1 .1 .1 .1 .1 .0)) (c .before .r .given .1) (f .ensures) in
-    body-refused (a .m) (length (a .input .now)) (length (a .latch .now)) (length (a .gate .now)) (a .s .now) (a .from) (c .before .r .given .0 .0 .number) (c .before .r .given .0 .0 .place) w
+    let w = subst (FirstAs (a .m) (length (a .input .now)) (length (a .latch .now)) (a .s .now) (a .from) (f .last .1 .1 .1 .0) (f .last .1 .1 .1 .1 .0) (f .last .1 .1 .1 .1 .1 .0) (f .last .1 .1 .1 .1 .1 .1 .0)) (c .before .r .given .1) (f .ensures) in
+    body-refused (a .m) (length (a .input .now)) (length (a .latch .now)) (length (a .gate .now)) (a .s .now) (a .from) (p .second) (c .before .r .given .0 .0 .number) (c .before .r .given .0 .0 .place) w
 
 same-length-5 : tie.Need-same-length-5
 same-length-5 c = search needs
@@ -95,11 +92,10 @@ returns-2 c =
     let a = c .before .before .before .before .before .before .before .before .before .before .before .before .before .before .before .before .before .before .before .before .before .before .before .before .before .before .before .before .before .before .before .before .before .before .before .before .before .before .before .before .args in
     let p = c .before .before .before .before .before .before .before .before .before .before .before .before .before .before .before .before .before .before .before .before .before .before .before .before .before .before .before .before .before .before .before .before .before .before .before .before .before .before .before .before .pre in
     let f = c .before .before .before .before .before .before .before .before .before .before .before .before .before .before .before .before .before .before .before .before .before .before .before .before .before .before .before .first-lines in
-    let w = subst (FirstAs (headerWith (a .m) (length (a .input .now)) (length (a .latch .now)) (length (a .gate .now))) (a .s .now) (a .from) (f .last .1 .1 .1 .1 .0) (f .last .1 .1 .1 .1 .1 .0) (f .last .1 .1 .1 .1 .1 .1 .0) (f .last .1 .1 .1 .1 .1 .1 .1 .0)) (c .before .before .before .before .before .before .before .before .before .before .before .before .before .before .before .before .before .at .given .1) (f .ensures) in
+    let w = subst (FirstAs (a .m) (length (a .input .now)) (length (a .latch .now)) (a .s .now) (a .from) (f .last .1 .1 .1 .0) (f .last .1 .1 .1 .1 .0) (f .last .1 .1 .1 .1 .1 .0) (f .last .1 .1 .1 .1 .1 .1 .0)) (c .before .before .before .before .before .before .before .before .before .before .before .before .before .before .before .before .before .middle .given .1) (f .ensures) in
     let l = c .before .before .before .before .before .before .before .before .before .before .before .last-lines in
-    let v = subst (LastAs (headerWith (a .m) (length (a .input .now)) (length (a .latch .now)) (length (a .gate .now))) (a .s .now) (c .before .before .before .before .before .before .before .before .before .before .before .before .before .before .before .before .before .at .given .0 .0) (f .last .1 .1 .1 .1 .0) (l .last .1 .1 .1 .1 .1 .0) (l .last .1 .1 .1 .1 .1 .1 .0) (l .last .1 .1 .1 .1 .1 .1 .1 .0) (l .last .1 .1 .1 .1 .1 .1 .1 .1 .0)) (c .before .r2 .given .1)
-    (subst₂ (λ (i k : ℕ). LastAs (headerWith (a .m) i k (length (a .gate .now))) (a .s .now) (c .before .before .before .before .before .before .before .before .before .before .before .before .before .before .before .before .before .at .given .0 .0) (f .last .1 .1 .1 .1 .0) (l .last .1 .1 .1 .1 .1 .0) (l .last .1 .1 .1 .1 .1 .1 .0) (l .last .1 .1 .1 .1 .1 .1 .1 .0) (l .last .1 .1 .1 .1 .1 .1 .1 .1 .0) (l .result)) (f .kept .1 .1 .1 .1 .1 .0) (f .kept .1 .1 .1 .1 .1 .1 .0) (l .ensures)) in
-    body-refused-last (a .m) (length (a .input .now)) (length (a .latch .now)) (length (a .gate .now)) (a .s .now) (a .from) (f .last .1 .1 .1 .1 .0) (f .last .1 .1 .1 .1 .1 .0) (f .last .1 .1 .1 .1 .1 .1 .0) (f .last .1 .1 .1 .1 .1 .1 .1 .0) (c .before .before .before .before .before .before .before .before .before .before .before .before .before .before .before .before .before .at .given .0 .0) w (c .before .r2 .given .0 .0 .number) (c .before .r2 .given .0 .0 .place) v
+    let v = subst (LastAs (a .m) (length (a .gate .now)) (a .s .now) (c .before .before .before .before .before .before .before .before .before .before .before .before .before .before .before .before .before .middle .given .0 .0) (f .last .1 .1 .1 .0) (l .last .1 .1 .1 .0) (l .last .1 .1 .1 .1 .0) (l .last .1 .1 .1 .1 .1 .0) (l .last .1 .1 .1 .1 .1 .1 .0)) (c .before .r2 .given .1) (l .ensures) in
+    body-refused-last (a .m) (length (a .input .now)) (length (a .latch .now)) (length (a .gate .now)) (a .s .now) (a .from) (p .second) (f .last .1 .1 .1 .0) (f .last .1 .1 .1 .1 .0) (f .last .1 .1 .1 .1 .1 .0) (f .last .1 .1 .1 .1 .1 .1 .0) (c .before .before .before .before .before .before .before .before .before .before .before .before .before .before .before .before .before .middle .given .0 .0) w (c .before .r2 .given .0 .0 .number) (c .before .r2 .given .0 .0 .place) v
 
 same-length-12 : tie.Need-same-length-12
 same-length-12 c = search needs
@@ -127,13 +123,12 @@ returns-3 c =
     let a = c .before .before .before .before .before .before .before .before .before .before .before .before .before .before .before .before .before .before .before .before .before .before .before .before .before .before .before .before .before .before .before .before .before .before .before .before .before .before .before .before .before .before .before .args in
     let p = c .before .before .before .before .before .before .before .before .before .before .before .before .before .before .before .before .before .before .before .before .before .before .before .before .before .before .before .before .before .before .before .before .before .before .before .before .before .before .before .before .before .before .before .pre in
     let f = c .before .before .before .before .before .before .before .before .before .before .before .before .before .before .before .before .before .before .before .before .before .before .before .before .before .before .before .before .before .before .first-lines in
-    let w = subst (FirstAs (headerWith (a .m) (length (a .input .now)) (length (a .latch .now)) (length (a .gate .now))) (a .s .now) (a .from) (f .last .1 .1 .1 .1 .0) (f .last .1 .1 .1 .1 .1 .0) (f .last .1 .1 .1 .1 .1 .1 .0) (f .last .1 .1 .1 .1 .1 .1 .1 .0)) (c .before .before .before .before .before .before .before .before .before .before .before .before .before .before .before .before .before .before .before .before .at .given .1) (f .ensures) in
+    let w = subst (FirstAs (a .m) (length (a .input .now)) (length (a .latch .now)) (a .s .now) (a .from) (f .last .1 .1 .1 .0) (f .last .1 .1 .1 .1 .0) (f .last .1 .1 .1 .1 .1 .0) (f .last .1 .1 .1 .1 .1 .1 .0)) (c .before .before .before .before .before .before .before .before .before .before .before .before .before .before .before .before .before .before .before .before .middle .given .1) (f .ensures) in
     let l = c .before .before .before .before .before .before .before .before .before .before .before .before .before .before .last-lines in
-    let v = subst (LastAs (headerWith (a .m) (length (a .input .now)) (length (a .latch .now)) (length (a .gate .now))) (a .s .now) (c .before .before .before .before .before .before .before .before .before .before .before .before .before .before .before .before .before .before .before .before .at .given .0 .0) (f .last .1 .1 .1 .1 .0) (l .last .1 .1 .1 .1 .1 .0) (l .last .1 .1 .1 .1 .1 .1 .0) (l .last .1 .1 .1 .1 .1 .1 .1 .0) (l .last .1 .1 .1 .1 .1 .1 .1 .1 .0)) (c .before .before .before .before .behind .given .1)
-    (subst₂ (λ (i k : ℕ). LastAs (headerWith (a .m) i k (length (a .gate .now))) (a .s .now) (c .before .before .before .before .before .before .before .before .before .before .before .before .before .before .before .before .before .before .before .before .at .given .0 .0) (f .last .1 .1 .1 .1 .0) (l .last .1 .1 .1 .1 .1 .0) (l .last .1 .1 .1 .1 .1 .1 .0) (l .last .1 .1 .1 .1 .1 .1 .1 .0) (l .last .1 .1 .1 .1 .1 .1 .1 .1 .0) (l .result)) (f .kept .1 .1 .1 .1 .1 .0) (f .kept .1 .1 .1 .1 .1 .1 .0) (l .ensures)) in
-    body-as (a .m) (length (a .input .now)) (length (a .latch .now)) (length (a .gate .now)) (a .s .now) (a .from) (f .last .1 .1 .1 .1 .0) (f .last .1 .1 .1 .1 .1 .0) (f .last .1 .1 .1 .1 .1 .1 .0) (f .last .1 .1 .1 .1 .1 .1 .1 .0) (c .before .before .before .before .before .before .before .before .before .before .before .before .before .before .before .before .before .before .before .before .at .given .0 .0) w (l .last .1 .1 .1 .1 .1 .0) (l .last .1 .1 .1 .1 .1 .1 .0) (l .last .1 .1 .1 .1 .1 .1 .1 .0) (l .last .1 .1 .1 .1 .1 .1 .1 .1 .0) (c .before .before .before .before .behind .given .0 .0) (c .before .before .before .before .behind .given .0 .1 .0) v (f .kept .1 .1 .1 .1 .1 .1 .1 .0 ∙ p .first .nexts)
+    let v = subst (LastAs (a .m) (length (a .gate .now)) (a .s .now) (c .before .before .before .before .before .before .before .before .before .before .before .before .before .before .before .before .before .before .before .before .middle .given .0 .0) (f .last .1 .1 .1 .0) (l .last .1 .1 .1 .0) (l .last .1 .1 .1 .1 .0) (l .last .1 .1 .1 .1 .1 .0) (l .last .1 .1 .1 .1 .1 .1 .0)) (c .before .before .before .before .behind .given .1) (l .ensures) in
+    body-as (a .m) (length (a .input .now)) (length (a .latch .now)) (length (a .gate .now)) (a .s .now) (a .from) (p .second) (f .last .1 .1 .1 .0) (f .last .1 .1 .1 .1 .0) (f .last .1 .1 .1 .1 .1 .0) (f .last .1 .1 .1 .1 .1 .1 .0) (c .before .before .before .before .before .before .before .before .before .before .before .before .before .before .before .before .before .before .before .before .middle .given .0 .0) w (l .last .1 .1 .1 .0) (l .last .1 .1 .1 .1 .0) (l .last .1 .1 .1 .1 .1 .0) (l .last .1 .1 .1 .1 .1 .1 .0) (c .before .before .before .before .behind .given .0 .0) (c .before .before .before .before .behind .given .0 .1 .0) v (f .kept .1 .1 .1 .1 .1 .1 .0 ∙ p .first .nexts)
     (c .used-lines .result)
-    (subst (λ (i : ℕ). UsedLines (l .last .1 .1 .1 .1 .1 .0) (f .last .1 .1 .1 .1 .1 .1 .1 .0) i (c .before .before .before .before .behind .given .0 .0) (c .before .before .before .before .behind .given .0 .1 .0) (c .used-lines .result)) (f .kept .1 .1 .1 .1 .1 .0) (c .used-lines .ensures))
+    (subst (λ (i : ℕ). UsedLines (l .last .1 .1 .1 .0) (f .last .1 .1 .1 .1 .1 .1 .0) i (c .before .before .before .before .behind .given .0 .0) (c .before .before .before .before .behind .given .0 .1 .0) (c .used-lines .result)) (f .kept .1 .1 .1 .1 .0) (c .used-lines .ensures))
 
 pub body-lines-spec : {M : Type 1} → statement M
 body-lines-spec =
@@ -141,7 +136,7 @@ body-lines-spec =
     (tie.spec
     first-lines-requires
     enum-known-r
-    enum-known-at
+    enum-known-middle
     last-lines-requires
     enum-known-r-2
     enum-known-behind

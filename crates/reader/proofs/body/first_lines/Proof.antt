@@ -1,13 +1,12 @@
 -- `reader::body::first_lines` meets its contract: one section after the other. Assumes nothing.
-use Prim.Native.Nat.{ℕ, _+_}
 use borrow.Author.Needs.{needs}
 use lib.ListN.{length}
 use mathlib.Core.List.{[]}
-use mathlib.Core.Path.{_≡_, refl, sym, ap, _∙_, subst}
+use mathlib.Core.Path.{_∙_, subst}
 use native.Mathlib.Omega.{arith}
 use Rattle.reader.proofs.laws.BodyLoop.{marks-nothing, first-refused, first-as}
-use Rattle.text.specs.Rules.{inputRule, latchRule}
-use Rattle.reader.specs.SectionAs.{SectionAs, inputRow, latchRow}
+use Rattle.text.specs.Rules.{inputRule}
+use Rattle.reader.specs.SectionAs.{SectionAs, inputRow}
 use Rattle.reader.proofs.body.first_lines.Statement.{statement}
 use Rattle.reader.proofs.body.first_lines.Tie as tie
 
@@ -17,19 +16,16 @@ input-lines-requires c κs = search needs
 enum-known-r : tie.Need-enum-known-r
 enum-known-r c = search needs
 
-enum-known-at : tie.Need-enum-known-at
-enum-known-at c = search needs
-
-add-latch-lines : tie.Need-add-latch-lines
-add-latch-lines c = search needs
+enum-known-behind : tie.Need-enum-known-behind
+enum-known-behind c = search needs
 
 latch-lines-requires : tie.Need-latch-lines-requires
 latch-lines-requires c κs =
     let a = c .before .before .before .before .before .before .before .before .before .before .before .before .before .before .before .before .before .before .args in
     let p = c .before .before .before .before .before .before .before .before .before .before .before .before .before .before .before .before .before .before .pre in
     let i = c .before .before .before .before .before .before .before .before .before .before .input-lines in
-    let w = subst (SectionAs (inputRule (a .m)) (length (a .input .now)) 2 (a .s .now) (a .from) (a .defined .now) (i .last .1 .1 .1 .1 .0) (inputRow (i .last .1 .1 .1 .1 .1 .0))) (c .before .before .before .before .at .given .1) (i .ensures) [] (marks-nothing (a .defined .now) (p .marks-none)) in (
-      record { within = w .within; largest = p .largest; marks-all = i .kept .1 .1 .1 .1 .0 ∙ p .marks-all; places = omega (arith, i .kept .1 .1 .1 .1 .1 .0, p .inputs, p .latches) },
+    let w = subst (SectionAs (inputRule (a .m)) (length (a .input .now)) (a .s .now) (a .from) (a .defined .now) (i .last .1 .1 .1 .0) (inputRow (i .last .1 .1 .1 .1 .0))) (c .before .before .before .before .behind .given .1) (i .ensures) [] (marks-nothing (a .defined .now) (p .marks-none)) in (
+      record { within = w .within; largest = p .largest; marks-all = i .kept .1 .1 .1 .0 ∙ p .marks-all; places = omega (arith, w .line, p .places) },
       p .nexts,
     )
 
@@ -44,8 +40,8 @@ returns c =
     let a = c .before .before .before .before .before .before .before .before .before .before .before .before .before .before .before .args in
     let p = c .before .before .before .before .before .before .before .before .before .before .before .before .before .before .before .pre in
     let i = c .before .before .before .before .before .before .before .input-lines in
-    let w = subst (SectionAs (inputRule (a .m)) (length (a .input .now)) 2 (a .s .now) (a .from) (a .defined .now) (i .last .1 .1 .1 .1 .0) (inputRow (i .last .1 .1 .1 .1 .1 .0))) (c .before .r .given .1) (i .ensures) [] (marks-nothing (a .defined .now) (p .marks-none)) in
-    first-refused (a .m) (length (a .input .now)) (length (a .latch .now)) (a .gates) (a .s .now) (a .from) (c .before .r .given .0 .0 .number) (c .before .r .given .0 .0 .place) w
+    let w = subst (SectionAs (inputRule (a .m)) (length (a .input .now)) (a .s .now) (a .from) (a .defined .now) (i .last .1 .1 .1 .0) (inputRow (i .last .1 .1 .1 .1 .0))) (c .before .r .given .1) (i .ensures) [] (marks-nothing (a .defined .now) (p .marks-none)) in
+    first-refused (a .m) (length (a .input .now)) (length (a .latch .now)) (a .s .now) (a .from) (c .before .r .given .0 .0 .number) (c .before .r .given .0 .0 .place) w
 
 same-length-3 : tie.Need-same-length-3
 same-length-3 c = search needs
@@ -64,12 +60,11 @@ returns-2 c =
     let a = c .before .before .before .before .before .before .before .before .before .before .before .before .before .before .before .before .before .before .before .before .before .before .before .before .before .args in
     let p = c .before .before .before .before .before .before .before .before .before .before .before .before .before .before .before .before .before .before .before .before .before .before .before .before .before .pre in
     let i = c .before .before .before .before .before .before .before .before .before .before .before .before .before .before .before .before .before .input-lines in
-    let w = subst (SectionAs (inputRule (a .m)) (length (a .input .now)) 2 (a .s .now) (a .from) (a .defined .now) (i .last .1 .1 .1 .1 .0) (inputRow (i .last .1 .1 .1 .1 .1 .0))) (c .before .before .before .before .before .before .before .before .before .before .before .at .given .1) (i .ensures) [] (marks-nothing (a .defined .now) (p .marks-none)) in
+    let w = subst (SectionAs (inputRule (a .m)) (length (a .input .now)) (a .s .now) (a .from) (a .defined .now) (i .last .1 .1 .1 .0) (inputRow (i .last .1 .1 .1 .1 .0))) (c .before .before .before .before .before .before .before .before .before .before .before .behind .given .1) (i .ensures) [] (marks-nothing (a .defined .now) (p .marks-none)) in
     let l = c .before .before .before .before .before .before .latch-lines in
-    first-as (a .m) (length (a .input .now)) (length (a .latch .now)) (a .gates) (a .s .now) (a .from) (a .defined .now) (i .last .1 .1 .1 .1 .0) (l .last .1 .1 .1 .1 .0) (i .last .1 .1 .1 .1 .1 .0) (l .last .1 .1 .1 .1 .1 .0) (l .last .1 .1 .1 .1 .1 .1 .0)
-    (c .before .before .before .before .before .before .before .before .before .before .before .at .given .0 .0) w (l .result)
-    (subst (λ (n : ℕ). SectionAs (latchRule (a .m)) (length (a .latch .now)) (2 + n) (a .s .now) (c .before .before .before .before .before .before .before .before .before .before .before .at .given .0 .0) (i .last .1 .1 .1 .1 .0) (l .last .1 .1 .1 .1 .0) (latchRow (l .last .1 .1 .1 .1 .1 .0) (l .last .1 .1 .1 .1 .1 .1 .0)) (l .result))
-    (i .kept .1 .1 .1 .1 .1 .0) (l .ensures))
+    first-as (a .m) (length (a .input .now)) (length (a .latch .now)) (a .s .now) (a .from) (a .defined .now) (i .last .1 .1 .1 .0) (l .last .1 .1 .1 .0) (i .last .1 .1 .1 .1 .0) (l .last .1 .1 .1 .1 .0) (l .last .1 .1 .1 .1 .1 .0)
+    (c .before .before .before .before .before .before .before .before .before .before .before .behind .given .0 .0) w (l .result)
+    (l .ensures)
 
 pub first-lines-spec : {M : Type 1} → statement M
 first-lines-spec =
@@ -77,8 +72,7 @@ first-lines-spec =
     (tie.spec
     input-lines-requires
     enum-known-r
-    enum-known-at
-    add-latch-lines
+    enum-known-behind
     latch-lines-requires
     same-length
     same-length-2

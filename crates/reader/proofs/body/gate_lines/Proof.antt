@@ -1,7 +1,7 @@
 -- `reader::body::gate_lines` meets its contract: what is left of the section equals the whole. Assumes nothing.
 use Prim.Native.Nat.{ℕ, _+_, _-_}
 use borrow.Author.Needs.{needs}
-use lib.ListN.{length, getD, set, take, drop, length-set}
+use lib.ListN.{length, set, take, drop, length-set}
 use lib.Seq.{getD-set-same}
 use mathlib.Core.List.{List, [], _∷_}
 use mathlib.Core.Path.{_≡_, refl, sym, _∙_, subst}
@@ -14,19 +14,19 @@ use Rattle.reader.proofs.body.gate_lines.Statement.{statement}
 use Rattle.reader.proofs.body.gate_lines.Tie as tie
 
 abbrev Inv-loop : tie.InvT-loop
-Inv-loop s from place m defined₀ gate₀ left₀ right₀ at₀ i₀ defined gate left right at i =
-    Looping (gateRule m) (length gate₀) place s from defined₀ defined (gateRow gate left right) at i
+Inv-loop s m defined₀ gate₀ left₀ right₀ here₀ i₀ defined gate left right here i =
+    Looping (gateRule m) (length gate₀) s here₀ defined₀ defined (gateRow gate left right) here i
     × (length gate ≡ length gate₀)
     × (length left ≡ length gate₀)
     × (length right ≡ length gate₀)
 
 abbrev μ-loop : tie.MeasureT-loop
-μ-loop s from place m defined₀ gate₀ left₀ right₀ at₀ i₀ defined gate left right at i = length gate₀ - i
+μ-loop s m defined₀ gate₀ left₀ right₀ here₀ i₀ defined gate left right here i = length gate₀ - i
 
 loop-holds : tie.Need-loop-holds Inv-loop μ-loop
 loop-holds c =
     let a = c .before .before .before .before .before .args in (
-      looping-starts (gateRule (a .m)) (length (a .gate .now)) (a .place) (a .s .now) (a .from) (a .defined .now)
+      looping-starts (gateRule (a .m)) (length (a .gate .now)) (a .s .now) (a .from) (a .defined .now)
           (gateRow (a .gate .now) (a .left .now) (a .right .now)) (c .before .before .before .before .before .pre .0 .within),
       refl,
       c .before .before .before .before .before .pre .1 .0,
@@ -47,16 +47,13 @@ part-gate-line-end c =
     let a = c .before .before .before .before .before .before .before .before .args in
     let l = c .before .before .loop in
     let e = c .line-end in
-    line-ends-within (a .s .now) (l .at) (e .result) (e .ensures) (l .inv .0 .within)
+    line-ends-within (a .s .now) (l .here .at) (e .result) (e .ensures) (l .inv .0 .within)
 
 gate-line-requires : tie.Need-gate-line-requires Inv-loop μ-loop
 gate-line-requires c κs = search needs
 
 enum-known-number : tie.Need-enum-known-number Inv-loop μ-loop
 enum-known-number c = search needs
-
-add-t24 : tie.Need-add-t24 Inv-loop μ-loop
-add-t24 c = search needs
 
 same-length : tie.Need-same-length Inv-loop μ-loop
 same-length c = search needs
@@ -75,9 +72,9 @@ returns c =
     let a = c .before .before .before .before .before .before .before .before .before .before .before .before .before .before .args in
     let l = c .before .before .before .before .before .before .before .before .loop in
     let e = c .before .before .before .before .before .before .line-end in
-    looping-refuses (gateRule (a .m)) (length (a .gate .now)) (a .place) (a .s .now) (a .from) (a .defined .now) (l .defined) (gateRow (l .gate) (l .left) (l .right)) (l .at) (l .i) (l .inv .0) (omega (arith, c .before .before .before .before .before .before .before .loop-test .taken, l .inv .1)) (e .result) (e .ensures)
+    looping-refuses (gateRule (a .m)) (length (a .gate .now)) (a .s .now) (a .from) (a .defined .now) (l .defined) (gateRow (l .gate) (l .left) (l .right)) (l .here) (l .i) (l .inv .0) (omega (arith, c .before .before .before .before .before .before .before .loop-test .taken, l .inv .1)) (e .result) (e .ensures)
     (c .before .number .given .0 .0)
-    (subst (LinedAs (gateRule (a .m)) (l .defined) (take (e .result - l .at) (drop (l .at) (a .s .now)))) (c .before .number .given .1) (c .before .before .before .gate-line .ensures))
+    (subst (LinedAs (gateRule (a .m)) (l .defined) (take (e .result - l .here .at) (drop (l .here .at) (a .s .now)))) (c .before .number .given .1) (c .before .before .before .gate-line .ensures))
 
 enum-known-own : tie.Need-enum-known-own Inv-loop μ-loop
 enum-known-own c = search needs
@@ -103,6 +100,9 @@ slice-write-right c = search needs
 mark-requires : tie.Need-mark-requires Inv-loop μ-loop
 mark-requires c κs = search needs
 
+add-here : tie.Need-add-here Inv-loop μ-loop
+add-here c = search needs
+
 add-i : tie.Need-add-i Inv-loop μ-loop
 add-i c = search needs
 
@@ -112,20 +112,20 @@ loop-less c = search needs
 loop-again : tie.Need-loop-again Inv-loop μ-loop
 unfolding gateRow gateRule
 loop-again c =
-    let a = c .before .before .before .before .before .before .before .before .before .before .before .before .before .before .before .before .before .before .args in
-    let l = c .before .before .before .before .before .before .before .before .before .before .before .before .loop in
-    let e = c .before .before .before .before .before .before .before .before .before .before .line-end in
-    let own = c .before .before .before .before .before .own .given in
-    let (fine, may) = (subst (LinedAs (gateRule (a .m)) (l .defined) (take (e .result - l .at) (drop (l .at) (a .s .now)))) (own .1) (c .before .before .before .before .before .before .before .gate-line .ensures)) in
+    let a = c .before .before .before .before .before .before .before .before .before .before .before .before .before .before .before .before .before .before .before .args in
+    let l = c .before .before .before .before .before .before .before .before .before .before .before .before .before .loop in
+    let e = c .before .before .before .before .before .before .before .before .before .before .before .line-end in
+    let own = c .before .before .before .before .before .before .own .given in
+    let (fine, may) = (subst (LinedAs (gateRule (a .m)) (l .defined) (take (e .result - l .here .at) (drop (l .here .at) (a .s .now)))) (own .1) (c .before .before .before .before .before .before .before .before .gate-line .ensures)) in
     let gate′ = set (l .gate) (l .i) (own .0 .0) in
     let left′ = set (l .left) (l .i) (own .0 .1 .0) in
     let right′ = set (l .right) (l .i) (own .0 .1 .1 .0) in (
-      subst (λ (marks : List ℕ). Looping (gateRule (a .m)) (length (a .gate .now)) (a .place) (a .s .now) (a .from) (a .defined .now) marks (gateRow gate′ left′ right′) (e .result) (l .i + 1))
-          (sym (c .before .before .mark .ensures))
-          (looping-goes-on (gateRule (a .m)) (length (a .gate .now)) (a .place) (a .s .now) (a .from) (a .defined .now) (l .defined) (gateRow (l .gate) (l .left) (l .right)) (l .at) (l .i) (l .inv .0) (omega (arith, c .before .before .before .before .before .before .before .before .before .before .before .loop-test .taken, l .inv .1)) (e .result) (e .ensures) (own .0 .0 ∷ own .0 .1 .0 ∷ own .0 .1 .1 .0 ∷ []) (gateRow gate′ left′ right′) fine
+      subst (λ (marks : List ℕ). Looping (gateRule (a .m)) (length (a .gate .now)) (a .s .now) (a .from) (a .defined .now) marks (gateRow gate′ left′ right′) (record { at = e .result; line = l .here .line + 1 }) (l .i + 1))
+          (sym (c .before .before .before .mark .ensures))
+          (looping-goes-on (gateRule (a .m)) (length (a .gate .now)) (a .s .now) (a .from) (a .defined .now) (l .defined) (gateRow (l .gate) (l .left) (l .right)) (l .here) (l .i) (l .inv .0) (omega (arith, c .before .before .before .before .before .before .before .before .before .before .before .before .loop-test .taken, l .inv .1)) (e .result) (e .ensures) (own .0 .0 ∷ own .0 .1 .0 ∷ own .0 .1 .1 .0 ∷ []) (gateRow gate′ left′ right′) fine
           (λ j h. ap₃ (λ (x y z : ℕ). x ∷ y ∷ z ∷ []) (stored-before (l .gate) (l .i) (own .0 .0) j h) (stored-before (l .left) (l .i) (own .0 .1 .0) j h) (stored-before (l .right) (l .i) (own .0 .1 .1 .0) j h))
-          (ap₃ (λ (x y z : ℕ). x ∷ y ∷ z ∷ []) (getD-set-same (l .gate) (l .i) (own .0 .0) 0 (c .before .before .before .before .before .before .before .before .before .before .before .loop-test .taken)) (getD-set-same (l .left) (l .i) (own .0 .1 .0) 0 (omega (arith, c .before .before .before .before .before .before .before .before .before .before .before .loop-test .taken, l .inv .1, l .inv .2))) (getD-set-same (l .right) (l .i) (own .0 .1 .1 .0) 0 (omega (arith, c .before .before .before .before .before .before .before .before .before .before .before .loop-test .taken, l .inv .1, l .inv .3))))
-          refl (has-mark (l .defined) (a .defined .now) (own .0 .0) (l .inv .0 .marks-all) (c .before .before .before .before .before .before .before .before .before .before .before .before .before .before .before .before .before .before .pre .0 .marks-all) (may .first))),
+          (ap₃ (λ (x y z : ℕ). x ∷ y ∷ z ∷ []) (getD-set-same (l .gate) (l .i) (own .0 .0) 0 (c .before .before .before .before .before .before .before .before .before .before .before .before .loop-test .taken)) (getD-set-same (l .left) (l .i) (own .0 .1 .0) 0 (omega (arith, c .before .before .before .before .before .before .before .before .before .before .before .before .loop-test .taken, l .inv .1, l .inv .2))) (getD-set-same (l .right) (l .i) (own .0 .1 .1 .0) 0 (omega (arith, c .before .before .before .before .before .before .before .before .before .before .before .before .loop-test .taken, l .inv .1, l .inv .3))))
+          refl (has-mark (l .defined) (a .defined .now) (own .0 .0) (l .inv .0 .marks-all) (c .before .before .before .before .before .before .before .before .before .before .before .before .before .before .before .before .before .before .before .pre .0 .marks-all) (may .first))),
       length-set (l .gate) (l .i) (own .0 .0) ∙ l .inv .1,
       length-set (l .left) (l .i) (own .0 .1 .0) ∙ l .inv .2,
       length-set (l .right) (l .i) (own .0 .1 .1 .0) ∙ l .inv .3,
@@ -147,7 +147,7 @@ returns-2 : tie.Need-returns-2 Inv-loop μ-loop
 returns-2 c =
     let a = c .before .before .before .before .before .before .before .args in
     let l = c .before .loop in
-    looping-ends (gateRule (a .m)) (length (a .gate .now)) (a .place) (a .s .now) (a .from) (a .defined .now) (l .defined) (gateRow (l .gate) (l .left) (l .right)) (l .at) (l .i) (l .inv .0) (omega (arith, c .loop-test .left, l .inv .1))
+    looping-ends (gateRule (a .m)) (length (a .gate .now)) (a .s .now) (a .from) (a .defined .now) (l .defined) (gateRow (l .gate) (l .left) (l .right)) (l .here) (l .i) (l .inv .0) (omega (arith, c .loop-test .left, l .inv .1))
 
 pub gate-lines-spec : {M : Type 1} → statement M
 gate-lines-spec =
@@ -162,7 +162,6 @@ gate-lines-spec =
     part-gate-line-end
     gate-line-requires
     enum-known-number
-    add-t24
     same-length
     same-length-2
     same-length-3
@@ -176,6 +175,7 @@ gate-lines-spec =
     mul-right
     slice-write-right
     mark-requires
+    add-here
     add-i
     loop-less
     loop-again

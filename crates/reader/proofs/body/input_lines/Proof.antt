@@ -1,7 +1,7 @@
 -- `reader::body::input_lines` meets its contract: what is left of the section equals the whole. Assumes nothing.
-use Prim.Native.Nat.{ℕ, _+_, _-_, _<_, _≤_}
+use Prim.Native.Nat.{ℕ, _+_, _-_}
 use borrow.Author.Needs.{needs}
-use lib.ListN.{length, getD, set, length-set}
+use lib.ListN.{length, set, length-set}
 use lib.ListN.{take, drop}
 use lib.Seq.{getD-set-same}
 use mathlib.Core.List.{List, [], _∷_}
@@ -16,16 +16,16 @@ use Rattle.reader.proofs.body.input_lines.Statement.{statement}
 use Rattle.reader.proofs.body.input_lines.Tie as tie
 
 abbrev Inv-loop : tie.InvT-loop
-Inv-loop s from place m defined₀ input₀ at₀ i₀ defined input at i =
-    Looping (inputRule m) (length input₀) place s from defined₀ defined (inputRow input) at i × (length input ≡ length input₀)
+Inv-loop s m defined₀ input₀ here₀ i₀ defined input here i =
+    Looping (inputRule m) (length input₀) s here₀ defined₀ defined (inputRow input) here i × (length input ≡ length input₀)
 
 abbrev μ-loop : tie.MeasureT-loop
-μ-loop s from place m defined₀ input₀ at₀ i₀ defined input at i = length input₀ - i
+μ-loop s m defined₀ input₀ here₀ i₀ defined input here i = length input₀ - i
 
 loop-holds : tie.Need-loop-holds Inv-loop μ-loop
 loop-holds c =
     let a = c .before .before .before .args in
-    (looping-starts (inputRule (a .m)) (length (a .input .now)) (a .place) (a .s .now) (a .from) (a .defined .now) (inputRow (a .input .now)) (c .before .before .before .pre .within), refl)
+    (looping-starts (inputRule (a .m)) (length (a .input .now)) (a .s .now) (a .from) (a .defined .now) (inputRow (a .input .now)) (c .before .before .before .pre .within), refl)
 
 line-end-requires : tie.Need-line-end-requires Inv-loop μ-loop
 line-end-requires c κs = search needs
@@ -41,16 +41,13 @@ part-input-line-end c =
     let a = c .before .before .before .before .before .before .args in
     let l = c .before .before .loop in
     let e = c .line-end in
-    line-ends-within (a .s .now) (l .at) (e .result) (e .ensures) (l .inv .0 .within)
+    line-ends-within (a .s .now) (l .here .at) (e .result) (e .ensures) (l .inv .0 .within)
 
 input-line-requires : tie.Need-input-line-requires Inv-loop μ-loop
 input-line-requires c κs = search needs
 
 enum-known-number : tie.Need-enum-known-number Inv-loop μ-loop
 enum-known-number c = search needs
-
-add-t20 : tie.Need-add-t20 Inv-loop μ-loop
-add-t20 c = search needs
 
 same-length : tie.Need-same-length Inv-loop μ-loop
 same-length c = search needs
@@ -63,9 +60,9 @@ returns c =
     let a = c .before .before .before .before .before .before .before .before .before .before .before .before .args in
     let l = c .before .before .before .before .before .before .before .before .loop in
     let e = c .before .before .before .before .before .before .line-end in
-    looping-refuses (inputRule (a .m)) (length (a .input .now)) (a .place) (a .s .now) (a .from) (a .defined .now) (l .defined) (inputRow (l .input)) (l .at) (l .i) (l .inv .0) (omega (arith, c .before .before .before .before .before .before .before .loop-test .taken, l .inv .1)) (e .result) (e .ensures)
+    looping-refuses (inputRule (a .m)) (length (a .input .now)) (a .s .now) (a .from) (a .defined .now) (l .defined) (inputRow (l .input)) (l .here) (l .i) (l .inv .0) (omega (arith, c .before .before .before .before .before .before .before .loop-test .taken, l .inv .1)) (e .result) (e .ensures)
     (c .before .number .given .0 .0)
-    (subst (LinedAs (inputRule (a .m)) (l .defined) (take (e .result - l .at) (drop (l .at) (a .s .now)))) (c .before .number .given .1) (c .before .before .before .input-line .ensures))
+    (subst (LinedAs (inputRule (a .m)) (l .defined) (take (e .result - l .here .at) (drop (l .here .at) (a .s .now)))) (c .before .number .given .1) (c .before .before .before .input-line .ensures))
 
 enum-known-own : tie.Need-enum-known-own Inv-loop μ-loop
 enum-known-own c = search needs
@@ -79,6 +76,9 @@ slice-write-input c = search needs
 mark-requires : tie.Need-mark-requires Inv-loop μ-loop
 mark-requires c κs = search needs
 
+add-here : tie.Need-add-here Inv-loop μ-loop
+add-here c = search needs
+
 add-i : tie.Need-add-i Inv-loop μ-loop
 add-i c = search needs
 
@@ -88,17 +88,17 @@ loop-less c = search needs
 loop-again : tie.Need-loop-again Inv-loop μ-loop
 unfolding inputRow inputRule
 loop-again c =
-    let a = c .before .before .before .before .before .before .before .before .before .before .before .before .before .before .before .before .args in
-    let l = c .before .before .before .before .before .before .before .before .before .before .before .before .loop in
-    let e = c .before .before .before .before .before .before .before .before .before .before .line-end in
-    let own = c .before .before .before .before .before .own .given in
-    let (fine, may) = subst (LinedAs (inputRule (a .m)) (l .defined) (take (e .result - l .at) (drop (l .at) (a .s .now)))) (own .1) (c .before .before .before .before .before .before .before .input-line .ensures) in
+    let a = c .before .before .before .before .before .before .before .before .before .before .before .before .before .before .before .before .before .args in
+    let l = c .before .before .before .before .before .before .before .before .before .before .before .before .before .loop in
+    let e = c .before .before .before .before .before .before .before .before .before .before .before .line-end in
+    let own = c .before .before .before .before .before .before .own .given in
+    let (fine, may) = subst (LinedAs (inputRule (a .m)) (l .defined) (take (e .result - l .here .at) (drop (l .here .at) (a .s .now)))) (own .1) (c .before .before .before .before .before .before .before .before .input-line .ensures) in
     let input = set (l .input) (l .i) (own .0 .0) in (
-      subst (λ (marks : List ℕ). Looping (inputRule (a .m)) (length (a .input .now)) (a .place) (a .s .now) (a .from) (a .defined .now) marks (inputRow input) (e .result) (l .i + 1)) (sym (c .before .before .mark .ensures))
-          (looping-goes-on (inputRule (a .m)) (length (a .input .now)) (a .place) (a .s .now) (a .from) (a .defined .now) (l .defined) (inputRow (l .input)) (l .at) (l .i) (l .inv .0) (omega (arith, c .before .before .before .before .before .before .before .before .before .before .before .loop-test .taken, l .inv .1)) (e .result) (e .ensures) (own .0 .0 ∷ []) (inputRow input) fine
+      subst (λ (marks : List ℕ). Looping (inputRule (a .m)) (length (a .input .now)) (a .s .now) (a .from) (a .defined .now) marks (inputRow input) (record { at = e .result; line = l .here .line + 1 }) (l .i + 1)) (sym (c .before .before .before .mark .ensures))
+          (looping-goes-on (inputRule (a .m)) (length (a .input .now)) (a .s .now) (a .from) (a .defined .now) (l .defined) (inputRow (l .input)) (l .here) (l .i) (l .inv .0) (omega (arith, c .before .before .before .before .before .before .before .before .before .before .before .before .loop-test .taken, l .inv .1)) (e .result) (e .ensures) (own .0 .0 ∷ []) (inputRow input) fine
           (λ j h. ap (λ (x : ℕ). x ∷ []) (stored-before (l .input) (l .i) (own .0 .0) j h))
-          (ap (λ (x : ℕ). x ∷ []) (getD-set-same (l .input) (l .i) (own .0 .0) 0 (c .before .before .before .before .before .before .before .before .before .before .before .loop-test .taken)))
-          refl (has-mark (l .defined) (a .defined .now) (own .0 .0) (l .inv .0 .marks-all) (c .before .before .before .before .before .before .before .before .before .before .before .before .before .before .before .before .pre .marks-all) (may .first))),
+          (ap (λ (x : ℕ). x ∷ []) (getD-set-same (l .input) (l .i) (own .0 .0) 0 (c .before .before .before .before .before .before .before .before .before .before .before .before .loop-test .taken)))
+          refl (has-mark (l .defined) (a .defined .now) (own .0 .0) (l .inv .0 .marks-all) (c .before .before .before .before .before .before .before .before .before .before .before .before .before .before .before .before .before .pre .marks-all) (may .first))),
       length-set (l .input) (l .i) (own .0 .0) ∙ l .inv .1,
     )
 
@@ -112,7 +112,7 @@ returns-2 : tie.Need-returns-2 Inv-loop μ-loop
 returns-2 c =
     let a = c .before .before .before .before .before .args in
     let l = c .before .loop in
-    looping-ends (inputRule (a .m)) (length (a .input .now)) (a .place) (a .s .now) (a .from) (a .defined .now) (l .defined) (inputRow (l .input)) (l .at) (l .i) (l .inv .0) (omega (arith, c .loop-test .left, l .inv .1))
+    looping-ends (inputRule (a .m)) (length (a .input .now)) (a .s .now) (a .from) (a .defined .now) (l .defined) (inputRow (l .input)) (l .here) (l .i) (l .inv .0) (omega (arith, c .loop-test .left, l .inv .1))
 
 pub input-lines-spec : {M : Type 1} → statement M
 input-lines-spec =
@@ -127,7 +127,6 @@ input-lines-spec =
     part-input-line-end
     input-line-requires
     enum-known-number
-    add-t20
     same-length
     same-length-2
     returns
@@ -135,6 +134,7 @@ input-lines-spec =
     mul-input
     slice-write-input
     mark-requires
+    add-here
     add-i
     loop-less
     loop-again

@@ -1,12 +1,11 @@
 -- `reader::body::last_lines` meets its contract: the output's line, and the gates behind it. Assumes nothing.
-use Prim.Native.Nat.{ℕ, _+_, _-_}
+use Prim.Native.Nat.{_+_, _-_}
 use borrow.Author.Needs.{needs}
 use lib.ListN.{length, take, drop}
-use mathlib.Core.Path.{_≡_, refl, sym, ap, _∙_, subst}
-use native.Mathlib.Omega.{arith}
+use mathlib.Core.Path.{sym, subst}
 use Rattle.reader.proofs.laws.BodyLoop.{output-refused, gates-refused, gates-taken}
 use Rattle.reader.proofs.laws.SectionLoop.{line-ends-within}
-use Rattle.reader.specs.BodyRead.{headerWith, LastAs}
+use Rattle.reader.specs.BodyRead.{LastAs}
 use Rattle.reader.specs.LinedAs.{LinedAs}
 use Rattle.text.specs.Rules.{outputRule, gateRule}
 use Rattle.reader.specs.SectionAs.{SectionAs, gateRow}
@@ -27,7 +26,7 @@ part-output-line-end c =
     let a = c .before .before .before .before .before .before .args in
     let p = c .before .before .before .before .before .before .pre in
     let e = c .line-end in
-    line-ends-within (a .s .now) (a .from) (e .result) (e .ensures) (p .within)
+    line-ends-within (a .s .now) (a .from .at) (e .result) (e .ensures) (p .within)
 
 output-line-requires : tie.Need-output-line-requires
 output-line-requires c κs = search needs
@@ -35,46 +34,36 @@ output-line-requires c κs = search needs
 enum-known-number : tie.Need-enum-known-number
 enum-known-number c = search needs
 
-add-refusal : tie.Need-add-refusal
-add-refusal c = search needs
-
-add-refusal-2 : tie.Need-add-refusal-2
-add-refusal-2 c = search needs
-
 refusal-requires : tie.Need-refusal-requires
 refusal-requires c κs = search needs
 
 enum-known-output : tie.Need-enum-known-output
 enum-known-output c = search needs
 
-add-gate-lines : tie.Need-add-gate-lines
-add-gate-lines c = search needs
-
-add-gate-lines-2 : tie.Need-add-gate-lines-2
-add-gate-lines-2 c = search needs
+add-line : tie.Need-add-line
+add-line c = search needs
 
 gate-lines-requires : tie.Need-gate-lines-requires
 gate-lines-requires c κs =
-    let a = c .before .before .before .before .before .before .before .before .before .before .before .before .before .before .before .args in
-    let p = c .before .before .before .before .before .before .before .before .before .before .before .before .before .before .before .pre in
-    let e = c .before .before .before .before .before .before .before .before .before .line-end in (
-      record { within = line-ends-within (a .s .now) (a .from) (e .result) (e .ensures) (p .within); largest = p .largest; marks-all = p .marks-all; places = omega (arith, p .inputs-most, p .latches-most, p .gates) },
+    let a = c .before .before .before .before .before .before .before .before .before .before .before .before .before .before .before .before .args in
+    let p = c .before .before .before .before .before .before .before .before .before .before .before .before .before .before .before .before .pre in
+    let e = c .before .before .before .before .before .before .before .before .before .before .line-end in (
+      record { within = line-ends-within (a .s .now) (a .from .at) (e .result) (e .ensures) (p .within); largest = p .largest; marks-all = p .marks-all; places = p .places },
       (p .lefts, p .rights),
     )
 
 enum-known-r : tie.Need-enum-known-r
 enum-known-r c = search needs
 
-enum-known-at : tie.Need-enum-known-at
-enum-known-at c = search needs
+enum-known-last : tie.Need-enum-known-last
+enum-known-last c = search needs
 
 returns : tie.Need-returns
 returns c =
     let a = c .before .before .before .before .before .before .before .before .before .before .before .before .args in
-    let p = c .before .before .before .before .before .before .before .before .before .before .before .before .pre in
     let e = c .before .before .before .before .before .before .line-end in
-    subst (LastAs (headerWith (a .m) (a .inputs) (a .latches) (length (a .gate .now))) (a .s .now) (a .from) (a .defined .now) (a .defined .now) (a .gate .now) (a .left .now) (a .right .now)) (sym (c .refusal .ensures))
-    (output-refused (a .m) (a .inputs) (a .latches) (length (a .gate .now)) (a .s .now) (a .from) (e .result) (e .ensures) (p .within) (a .defined .now) (c .before .before .number .given .0 .0) (subst (LinedAs (outputRule (a .m)) (a .defined .now) (take (e .result - a .from) (drop (a .from) (a .s .now)))) (c .before .before .number .given .1) (c .before .before .before .before .output-line .ensures (a .defined .now))) (a .defined .now) (a .gate .now) (a .left .now) (a .right .now))
+    subst (LastAs (a .m) (length (a .gate .now)) (a .s .now) (a .from) (a .defined .now) (a .defined .now) (a .gate .now) (a .left .now) (a .right .now)) (sym (c .refusal .ensures))
+    (output-refused (a .m) (length (a .gate .now)) (a .s .now) (a .from) (e .result) (e .ensures) (a .defined .now) (c .before .before .number .given .0 .0) (subst (LinedAs (outputRule (a .m)) (a .defined .now) (take (e .result - a .from .at) (drop (a .from .at) (a .s .now)))) (c .before .before .number .given .1) (c .before .before .before .before .output-line .ensures (a .defined .now))) (a .defined .now) (a .gate .now) (a .left .now) (a .right .now))
 
 same-length : tie.Need-same-length
 same-length c = search needs
@@ -91,13 +80,12 @@ same-length-4 c = search needs
 returns-2 : tie.Need-returns-2
 unfolding outputRule
 returns-2 c =
-    let a = c .before .before .before .before .before .before .before .before .before .before .before .before .before .before .before .before .before .before .before .before .before .before .before .before .before .before .before .args in
-    let p = c .before .before .before .before .before .before .before .before .before .before .before .before .before .before .before .before .before .before .before .before .before .before .before .before .before .before .before .pre in
-    let e = c .before .before .before .before .before .before .before .before .before .before .before .before .before .before .before .before .before .before .before .before .before .line-end in
+    let a = c .before .before .before .before .before .before .before .before .before .before .before .before .before .before .before .before .before .before .before .before .before .before .before .before .before .before .before .before .args in
+    let e = c .before .before .before .before .before .before .before .before .before .before .before .before .before .before .before .before .before .before .before .before .before .before .line-end in
     let g = c .before .before .before .before .before .before .before .before .before .before .before .gate-lines in
-    let (fine, may) = subst (LinedAs (outputRule (a .m)) (a .defined .now) (take (e .result - a .from) (drop (a .from) (a .s .now)))) (c .before .before .before .before .before .before .before .before .before .before .before .before .before .before .before .before .before .output .given .1) (c .before .before .before .before .before .before .before .before .before .before .before .before .before .before .before .before .before .before .before .output-line .ensures (a .defined .now)) in
-    gates-refused (a .m) (a .inputs) (a .latches) (length (a .gate .now)) (a .s .now) (a .from) (e .result) (e .ensures) (p .within) (a .defined .now) (c .before .before .before .before .before .before .before .before .before .before .before .before .before .before .before .before .before .output .given .0 .0) fine (g .last .1 .1 .1 .1 .0) (g .last .1 .1 .1 .1 .1 .0) (g .last .1 .1 .1 .1 .1 .1 .0) (g .last .1 .1 .1 .1 .1 .1 .1 .0) (c .before .r .given .0 .0 .number) (c .before .r .given .0 .0 .place)
-    (subst (SectionAs (gateRule (a .m)) (length (a .gate .now)) (3 + a .inputs + a .latches) (a .s .now) (e .result) (a .defined .now) (g .last .1 .1 .1 .1 .0) (gateRow (g .last .1 .1 .1 .1 .1 .0) (g .last .1 .1 .1 .1 .1 .1 .0) (g .last .1 .1 .1 .1 .1 .1 .1 .0))) (c .before .r .given .1) (g .ensures))
+    let (fine, may) = subst (LinedAs (outputRule (a .m)) (a .defined .now) (take (e .result - a .from .at) (drop (a .from .at) (a .s .now)))) (c .before .before .before .before .before .before .before .before .before .before .before .before .before .before .before .before .before .before .output .given .1) (c .before .before .before .before .before .before .before .before .before .before .before .before .before .before .before .before .before .before .before .before .output-line .ensures (a .defined .now)) in
+    gates-refused (a .m) (length (a .gate .now)) (a .s .now) (a .from) (e .result) (e .ensures) (a .defined .now) (c .before .before .before .before .before .before .before .before .before .before .before .before .before .before .before .before .before .before .output .given .0 .0) fine (g .last .1 .1 .1 .0) (g .last .1 .1 .1 .1 .0) (g .last .1 .1 .1 .1 .1 .0) (g .last .1 .1 .1 .1 .1 .1 .0) (c .before .r .given .0 .0 .number) (c .before .r .given .0 .0 .place)
+    (subst (SectionAs (gateRule (a .m)) (length (a .gate .now)) (a .s .now) (record { at = e .result; line = a .from .line + 1 }) (a .defined .now) (g .last .1 .1 .1 .0) (gateRow (g .last .1 .1 .1 .1 .0) (g .last .1 .1 .1 .1 .1 .0) (g .last .1 .1 .1 .1 .1 .1 .0))) (c .before .r .given .1) (g .ensures))
 
 same-length-5 : tie.Need-same-length-5
 same-length-5 c = search needs
@@ -114,13 +102,12 @@ same-length-8 c = search needs
 returns-3 : tie.Need-returns-3
 unfolding outputRule
 returns-3 c =
-    let a = c .before .before .before .before .before .before .before .before .before .before .before .before .before .before .before .before .before .before .before .before .before .before .before .before .before .before .before .args in
-    let p = c .before .before .before .before .before .before .before .before .before .before .before .before .before .before .before .before .before .before .before .before .before .before .before .before .before .before .before .pre in
-    let e = c .before .before .before .before .before .before .before .before .before .before .before .before .before .before .before .before .before .before .before .before .before .line-end in
+    let a = c .before .before .before .before .before .before .before .before .before .before .before .before .before .before .before .before .before .before .before .before .before .before .before .before .before .before .before .before .args in
+    let e = c .before .before .before .before .before .before .before .before .before .before .before .before .before .before .before .before .before .before .before .before .before .before .line-end in
     let g = c .before .before .before .before .before .before .before .before .before .before .before .gate-lines in
-    let (fine, may) = subst (LinedAs (outputRule (a .m)) (a .defined .now) (take (e .result - a .from) (drop (a .from) (a .s .now)))) (c .before .before .before .before .before .before .before .before .before .before .before .before .before .before .before .before .before .output .given .1) (c .before .before .before .before .before .before .before .before .before .before .before .before .before .before .before .before .before .before .before .output-line .ensures (a .defined .now)) in
-    gates-taken (a .m) (a .inputs) (a .latches) (length (a .gate .now)) (a .s .now) (a .from) (e .result) (e .ensures) (p .within) (a .defined .now) (c .before .before .before .before .before .before .before .before .before .before .before .before .before .before .before .before .before .output .given .0 .0) fine (g .last .1 .1 .1 .1 .0) (g .last .1 .1 .1 .1 .1 .0) (g .last .1 .1 .1 .1 .1 .1 .0) (g .last .1 .1 .1 .1 .1 .1 .1 .0) (c .before .at .given .0 .0)
-    (subst (SectionAs (gateRule (a .m)) (length (a .gate .now)) (3 + a .inputs + a .latches) (a .s .now) (e .result) (a .defined .now) (g .last .1 .1 .1 .1 .0) (gateRow (g .last .1 .1 .1 .1 .1 .0) (g .last .1 .1 .1 .1 .1 .1 .0) (g .last .1 .1 .1 .1 .1 .1 .1 .0))) (c .before .at .given .1) (g .ensures))
+    let (fine, may) = subst (LinedAs (outputRule (a .m)) (a .defined .now) (take (e .result - a .from .at) (drop (a .from .at) (a .s .now)))) (c .before .before .before .before .before .before .before .before .before .before .before .before .before .before .before .before .before .before .output .given .1) (c .before .before .before .before .before .before .before .before .before .before .before .before .before .before .before .before .before .before .before .before .output-line .ensures (a .defined .now)) in
+    gates-taken (a .m) (length (a .gate .now)) (a .s .now) (a .from) (e .result) (e .ensures) (a .defined .now) (c .before .before .before .before .before .before .before .before .before .before .before .before .before .before .before .before .before .before .output .given .0 .0) fine (g .last .1 .1 .1 .0) (g .last .1 .1 .1 .1 .0) (g .last .1 .1 .1 .1 .1 .0) (g .last .1 .1 .1 .1 .1 .1 .0) (c .before .last .given .0 .0)
+    (subst (SectionAs (gateRule (a .m)) (length (a .gate .now)) (a .s .now) (record { at = e .result; line = a .from .line + 1 }) (a .defined .now) (g .last .1 .1 .1 .0) (gateRow (g .last .1 .1 .1 .1 .0) (g .last .1 .1 .1 .1 .1 .0) (g .last .1 .1 .1 .1 .1 .1 .0))) (c .before .last .given .1) (g .ensures))
 
 pub last-lines-spec : {M : Type 1} → statement M
 last-lines-spec =
@@ -132,15 +119,12 @@ last-lines-spec =
     part-output-line-end
     output-line-requires
     enum-known-number
-    add-refusal
-    add-refusal-2
     refusal-requires
     enum-known-output
-    add-gate-lines
-    add-gate-lines-2
+    add-line
     gate-lines-requires
     enum-known-r
-    enum-known-at
+    enum-known-last
     returns
     same-length
     same-length-2

@@ -1,16 +1,11 @@
 -- `reader::body::latch_line` meets its contract: the tests of the rule, in the rule's order. Assumes nothing.
-use Prim.Native.Nat.{ℕ, _+_, _*_, _<_}
 use borrow.Author.Needs.{needs}
-use mathlib.Core.Bool.{Bool, true, false, _||_}
-use mathlib.Core.List.{List, [], _∷_}
-use mathlib.Core.Path.{_≡_, refl, sym, ap, _∙_, subst}
+use mathlib.Core.Path.{subst}
 use native.Mathlib.Omega.{arith}
-use Rattle.circuit.specs.Limits.{base}
-use Rattle.circuit.specs.Literal.{tooLarge}
-use Rattle.reader.proofs.laws.Judged.{lined-malformed, lined-faulty, lined-fine, not-five, neither, literal-below, own-below, may-have, input-fault, latch-fault, output-fault, gate-fault}
-use Rattle.reader.specs.Marks.{marked, unmarked, Marks, numberOr}
+use Rattle.reader.proofs.laws.FoundLine.{Found, found-fault, found-literals, found-row, latch-found}
+use Rattle.reader.proofs.laws.Judged.{lined-malformed}
 use Rattle.reader.specs.RowAt.{RowAt}
-use Rattle.text.specs.Rules.{firstOf, badOwn, inputRule, latchRule, outputRule, gateRule}
+use Rattle.text.specs.Rules.{latchRule}
 use Rattle.reader.proofs.body.latch_line.Statement.{statement}
 use Rattle.reader.proofs.body.latch_line.Tie as tie
 
@@ -44,45 +39,24 @@ is-marked-requires c κs = search needs
 first-of-requires : tie.Need-first-of-requires
 first-of-requires c κs = search needs
 
+-- what the code finds in the line
+found : (c : tie.After-first-of) → Found (latchRule (c .before .before .before .before .before .before .before .before .before .before .before .args .m)) (c .before .before .before .before .before .before .before .before .before .before .before .args .defined .now) (c .before .before .before .before .before .before .before .before .before .before .before .args .line .now) (c .before .before .before .before .before .before .own .given .0 .0) (c .before .before .before .before .before .before .own .given .0 .1 .0) 0 (c .first-of .result)
+found c =
+    let a = c .before .before .before .before .before .before .before .before .before .before .before .args in
+    let g = c .before .before .before .before .before .before .own .given .0 in
+    latch-found (a .m) (c .before .before .before .before .before .before .before .before .before .before .before .pre) (a .defined .now) (a .line .now) (c .first-of .result) (g .0) (g .1 .0) (subst (RowAt (a .line .now) 0 2) (c .before .before .before .before .before .before .own .given .1) (c .before .before .before .before .before .before .before .before .two .ensures) .0) cc
+
 cast-t12 : tie.Need-cast-t12
-cast-t12 c =
-    let a = c .before .before .before .before .before .before .before .before .before .before .before .before .args in
-    let g = c .before .before .before .before .before .before .before .own .given .0 in
-    let (are, small) = subst (RowAt (a .line .now) 0 2) (c .before .before .before .before .before .before .before .own .given .1) (c .before .before .before .before .before .before .before .before .before .two .ensures) in
-    let found : c .before .first-of .result ≡ numberOr (firstOf (badOwn (a .m) (g .0) || tooLarge (a .m) (g .1 .0)) (marked (a .defined .now) (g .0)) (false)) = cc in
-    let fine : (badOwn (a .m) (g .0) || tooLarge (a .m) (g .1 .0)) ≡ false = not-five (badOwn (a .m) (g .0) || tooLarge (a .m) (g .1 .0)) (marked (a .defined .now) (g .0)) (false) (sym found ∙ c .if1 .taken) in
-    let (own, next) = neither (badOwn (a .m) (g .0)) (tooLarge (a .m) (g .1 .0)) fine in
-    omega (arith, may-have (a .m) (g .0) (c .before .before .before .before .before .before .before .before .before .before .before .before .pre) (own-below (a .m) (g .0) own))
+cast-t12 c = omega (arith, found-literals (found (c .before)) (c .if1 .taken) .first)
 
 cast-t13 : tie.Need-cast-t13
-cast-t13 c =
-    let a = c .before .before .before .before .before .before .before .before .before .before .before .before .args in
-    let g = c .before .before .before .before .before .before .before .own .given .0 in
-    let (are, small) = subst (RowAt (a .line .now) 0 2) (c .before .before .before .before .before .before .before .own .given .1) (c .before .before .before .before .before .before .before .before .before .two .ensures) in
-    let found : c .before .first-of .result ≡ numberOr (firstOf (badOwn (a .m) (g .0) || tooLarge (a .m) (g .1 .0)) (marked (a .defined .now) (g .0)) (false)) = cc in
-    let fine : (badOwn (a .m) (g .0) || tooLarge (a .m) (g .1 .0)) ≡ false = not-five (badOwn (a .m) (g .0) || tooLarge (a .m) (g .1 .0)) (marked (a .defined .now) (g .0)) (false) (sym found ∙ c .if1 .taken) in
-    let (own, next) = neither (badOwn (a .m) (g .0)) (tooLarge (a .m) (g .1 .0)) fine in
-    omega (arith, may-have (a .m) (g .1 .0) (c .before .before .before .before .before .before .before .before .before .before .before .before .pre) (literal-below (a .m) (g .1 .0) next))
+cast-t13 c = omega (arith, found-literals (found (c .before)) (c .if1 .taken) .second)
 
 returns-2 : tie.Need-returns-2
-unfolding latchRule
-returns-2 c =
-    let a = c .before .before .before .before .before .before .before .before .before .before .before .before .args in
-    let g = c .before .before .before .before .before .before .before .own .given .0 in
-    let (are, small) = subst (RowAt (a .line .now) 0 2) (c .before .before .before .before .before .before .before .own .given .1) (c .before .before .before .before .before .before .before .before .before .two .ensures) in
-    let found : c .before .first-of .result ≡ numberOr (firstOf (badOwn (a .m) (g .0) || tooLarge (a .m) (g .1 .0)) (marked (a .defined .now) (g .0)) (false)) = cc in
-    let fine : (badOwn (a .m) (g .0) || tooLarge (a .m) (g .1 .0)) ≡ false = not-five (badOwn (a .m) (g .0) || tooLarge (a .m) (g .1 .0)) (marked (a .defined .now) (g .0)) (false) (sym found ∙ c .if1 .taken) in
-    let (own, next) = neither (badOwn (a .m) (g .0)) (tooLarge (a .m) (g .1 .0)) fine in
-    (lined-fine (latchRule (a .m)) (a .defined .now) (a .line .now) ((g .0) ∷ (g .1 .0) ∷ []) (badOwn (a .m) (g .0) || tooLarge (a .m) (g .1 .0)) (marked (a .defined .now) (g .0)) (false) (c .before .first-of .result) are (λ defined says. latch-fault (a .m) (a .defined .now) defined says (g .0) (g .1 .0)) found (c .if1 .taken), record { first = may-have (a .m) (g .0) (c .before .before .before .before .before .before .before .before .before .before .before .before .pre) (own-below (a .m) (g .0) own); second = may-have (a .m) (g .1 .0) (c .before .before .before .before .before .before .before .before .before .before .before .before .pre) (literal-below (a .m) (g .1 .0) next); third = omega arith })
+returns-2 c = found-row (found (c .before)) (c .if1 .taken)
 
 returns-3 : tie.Need-returns-3
-unfolding latchRule
-returns-3 c =
-    let a = c .before .before .before .before .before .before .before .before .before .before .before .before .args in
-    let g = c .before .before .before .before .before .before .before .own .given .0 in
-    let (are, small) = subst (RowAt (a .line .now) 0 2) (c .before .before .before .before .before .before .before .own .given .1) (c .before .before .before .before .before .before .before .before .before .two .ensures) in
-    let found : c .before .first-of .result ≡ numberOr (firstOf (badOwn (a .m) (g .0) || tooLarge (a .m) (g .1 .0)) (marked (a .defined .now) (g .0)) (false)) = cc in
-    lined-faulty (latchRule (a .m)) (a .defined .now) (a .line .now) ((g .0) ∷ (g .1 .0) ∷ []) (badOwn (a .m) (g .0) || tooLarge (a .m) (g .1 .0)) (marked (a .defined .now) (g .0)) (false) (c .before .first-of .result) are (λ defined says. latch-fault (a .m) (a .defined .now) defined says (g .0) (g .1 .0)) found (c .if1 .left)
+returns-3 c = found-fault (found (c .before)) (c .if1 .left)
 
 pub latch-line-spec : {M : Type 1} → statement M
 latch-line-spec =

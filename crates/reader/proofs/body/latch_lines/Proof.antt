@@ -1,7 +1,7 @@
 -- `reader::body::latch_lines` meets its contract: what is left of the section equals the whole. Assumes nothing.
 use Prim.Native.Nat.{ℕ, _+_, _-_}
 use borrow.Author.Needs.{needs}
-use lib.ListN.{length, getD, set, take, drop, length-set}
+use lib.ListN.{length, set, take, drop, length-set}
 use lib.Seq.{getD-set-same}
 use mathlib.Core.List.{List, [], _∷_}
 use mathlib.Core.Path.{_≡_, refl, sym, ap₂, _∙_, subst}
@@ -14,18 +14,18 @@ use Rattle.reader.proofs.body.latch_lines.Statement.{statement}
 use Rattle.reader.proofs.body.latch_lines.Tie as tie
 
 abbrev Inv-loop : tie.InvT-loop
-Inv-loop s from place m defined₀ latch₀ next₀ at₀ i₀ defined latch next at i =
-    Looping (latchRule m) (length latch₀) place s from defined₀ defined (latchRow latch next) at i
+Inv-loop s m defined₀ latch₀ next₀ here₀ i₀ defined latch next here i =
+    Looping (latchRule m) (length latch₀) s here₀ defined₀ defined (latchRow latch next) here i
     × (length latch ≡ length latch₀)
     × (length next ≡ length latch₀)
 
 abbrev μ-loop : tie.MeasureT-loop
-μ-loop s from place m defined₀ latch₀ next₀ at₀ i₀ defined latch next at i = length latch₀ - i
+μ-loop s m defined₀ latch₀ next₀ here₀ i₀ defined latch next here i = length latch₀ - i
 
 loop-holds : tie.Need-loop-holds Inv-loop μ-loop
 loop-holds c =
     let a = c .before .before .before .before .args in (
-      looping-starts (latchRule (a .m)) (length (a .latch .now)) (a .place) (a .s .now) (a .from) (a .defined .now)
+      looping-starts (latchRule (a .m)) (length (a .latch .now)) (a .s .now) (a .from) (a .defined .now)
           (latchRow (a .latch .now) (a .next .now)) (c .before .before .before .before .pre .0 .within),
       refl,
       c .before .before .before .before .pre .1,
@@ -45,16 +45,13 @@ part-latch-line-end c =
     let a = c .before .before .before .before .before .before .before .args in
     let l = c .before .before .loop in
     let e = c .line-end in
-    line-ends-within (a .s .now) (l .at) (e .result) (e .ensures) (l .inv .0 .within)
+    line-ends-within (a .s .now) (l .here .at) (e .result) (e .ensures) (l .inv .0 .within)
 
 latch-line-requires : tie.Need-latch-line-requires Inv-loop μ-loop
 latch-line-requires c κs = search needs
 
 enum-known-number : tie.Need-enum-known-number Inv-loop μ-loop
 enum-known-number c = search needs
-
-add-t22 : tie.Need-add-t22 Inv-loop μ-loop
-add-t22 c = search needs
 
 same-length : tie.Need-same-length Inv-loop μ-loop
 same-length c = search needs
@@ -70,9 +67,9 @@ returns c =
     let a = c .before .before .before .before .before .before .before .before .before .before .before .before .before .args in
     let l = c .before .before .before .before .before .before .before .before .loop in
     let e = c .before .before .before .before .before .before .line-end in
-    looping-refuses (latchRule (a .m)) (length (a .latch .now)) (a .place) (a .s .now) (a .from) (a .defined .now) (l .defined) (latchRow (l .latch) (l .next)) (l .at) (l .i) (l .inv .0) (omega (arith, c .before .before .before .before .before .before .before .loop-test .taken, l .inv .1)) (e .result) (e .ensures)
+    looping-refuses (latchRule (a .m)) (length (a .latch .now)) (a .s .now) (a .from) (a .defined .now) (l .defined) (latchRow (l .latch) (l .next)) (l .here) (l .i) (l .inv .0) (omega (arith, c .before .before .before .before .before .before .before .loop-test .taken, l .inv .1)) (e .result) (e .ensures)
     (c .before .number .given .0 .0)
-    (subst (LinedAs (latchRule (a .m)) (l .defined) (take (e .result - l .at) (drop (l .at) (a .s .now)))) (c .before .number .given .1) (c .before .before .before .latch-line .ensures))
+    (subst (LinedAs (latchRule (a .m)) (l .defined) (take (e .result - l .here .at) (drop (l .here .at) (a .s .now)))) (c .before .number .given .1) (c .before .before .before .latch-line .ensures))
 
 enum-known-own : tie.Need-enum-known-own Inv-loop μ-loop
 enum-known-own c = search needs
@@ -92,6 +89,9 @@ slice-write-next c = search needs
 mark-requires : tie.Need-mark-requires Inv-loop μ-loop
 mark-requires c κs = search needs
 
+add-here : tie.Need-add-here Inv-loop μ-loop
+add-here c = search needs
+
 add-i : tie.Need-add-i Inv-loop μ-loop
 add-i c = search needs
 
@@ -101,19 +101,19 @@ loop-less c = search needs
 loop-again : tie.Need-loop-again Inv-loop μ-loop
 unfolding latchRow latchRule
 loop-again c =
-    let a = c .before .before .before .before .before .before .before .before .before .before .before .before .before .before .before .before .before .args in
-    let l = c .before .before .before .before .before .before .before .before .before .before .before .before .loop in
-    let e = c .before .before .before .before .before .before .before .before .before .before .line-end in
-    let own = c .before .before .before .before .before .own .given in
-    let (fine, may) = (subst (LinedAs (latchRule (a .m)) (l .defined) (take (e .result - l .at) (drop (l .at) (a .s .now)))) (own .1) (c .before .before .before .before .before .before .before .latch-line .ensures)) in
+    let a = c .before .before .before .before .before .before .before .before .before .before .before .before .before .before .before .before .before .before .args in
+    let l = c .before .before .before .before .before .before .before .before .before .before .before .before .before .loop in
+    let e = c .before .before .before .before .before .before .before .before .before .before .before .line-end in
+    let own = c .before .before .before .before .before .before .own .given in
+    let (fine, may) = (subst (LinedAs (latchRule (a .m)) (l .defined) (take (e .result - l .here .at) (drop (l .here .at) (a .s .now)))) (own .1) (c .before .before .before .before .before .before .before .before .latch-line .ensures)) in
     let latch′ = set (l .latch) (l .i) (own .0 .0) in
     let next′ = set (l .next) (l .i) (own .0 .1 .0) in (
-      subst (λ (marks : List ℕ). Looping (latchRule (a .m)) (length (a .latch .now)) (a .place) (a .s .now) (a .from) (a .defined .now) marks (latchRow latch′ next′) (e .result) (l .i + 1))
-          (sym (c .before .before .mark .ensures))
-          (looping-goes-on (latchRule (a .m)) (length (a .latch .now)) (a .place) (a .s .now) (a .from) (a .defined .now) (l .defined) (latchRow (l .latch) (l .next)) (l .at) (l .i) (l .inv .0) (omega (arith, c .before .before .before .before .before .before .before .before .before .before .before .loop-test .taken, l .inv .1)) (e .result) (e .ensures) (own .0 .0 ∷ own .0 .1 .0 ∷ []) (latchRow latch′ next′) fine
+      subst (λ (marks : List ℕ). Looping (latchRule (a .m)) (length (a .latch .now)) (a .s .now) (a .from) (a .defined .now) marks (latchRow latch′ next′) (record { at = e .result; line = l .here .line + 1 }) (l .i + 1))
+          (sym (c .before .before .before .mark .ensures))
+          (looping-goes-on (latchRule (a .m)) (length (a .latch .now)) (a .s .now) (a .from) (a .defined .now) (l .defined) (latchRow (l .latch) (l .next)) (l .here) (l .i) (l .inv .0) (omega (arith, c .before .before .before .before .before .before .before .before .before .before .before .before .loop-test .taken, l .inv .1)) (e .result) (e .ensures) (own .0 .0 ∷ own .0 .1 .0 ∷ []) (latchRow latch′ next′) fine
           (λ j h. ap₂ (λ (x y : ℕ). x ∷ y ∷ []) (stored-before (l .latch) (l .i) (own .0 .0) j h) (stored-before (l .next) (l .i) (own .0 .1 .0) j h))
-          (ap₂ (λ (x y : ℕ). x ∷ y ∷ []) (getD-set-same (l .latch) (l .i) (own .0 .0) 0 (c .before .before .before .before .before .before .before .before .before .before .before .loop-test .taken)) (getD-set-same (l .next) (l .i) (own .0 .1 .0) 0 (omega (arith, c .before .before .before .before .before .before .before .before .before .before .before .loop-test .taken, l .inv .1, l .inv .2))))
-          refl (has-mark (l .defined) (a .defined .now) (own .0 .0) (l .inv .0 .marks-all) (c .before .before .before .before .before .before .before .before .before .before .before .before .before .before .before .before .before .pre .0 .marks-all) (may .first))),
+          (ap₂ (λ (x y : ℕ). x ∷ y ∷ []) (getD-set-same (l .latch) (l .i) (own .0 .0) 0 (c .before .before .before .before .before .before .before .before .before .before .before .before .loop-test .taken)) (getD-set-same (l .next) (l .i) (own .0 .1 .0) 0 (omega (arith, c .before .before .before .before .before .before .before .before .before .before .before .before .loop-test .taken, l .inv .1, l .inv .2))))
+          refl (has-mark (l .defined) (a .defined .now) (own .0 .0) (l .inv .0 .marks-all) (c .before .before .before .before .before .before .before .before .before .before .before .before .before .before .before .before .before .before .pre .0 .marks-all) (may .first))),
       length-set (l .latch) (l .i) (own .0 .0) ∙ l .inv .1,
       length-set (l .next) (l .i) (own .0 .1 .0) ∙ l .inv .2,
     )
@@ -131,7 +131,7 @@ returns-2 : tie.Need-returns-2 Inv-loop μ-loop
 returns-2 c =
     let a = c .before .before .before .before .before .before .args in
     let l = c .before .loop in
-    looping-ends (latchRule (a .m)) (length (a .latch .now)) (a .place) (a .s .now) (a .from) (a .defined .now) (l .defined) (latchRow (l .latch) (l .next)) (l .at) (l .i) (l .inv .0) (omega (arith, c .loop-test .left, l .inv .1))
+    looping-ends (latchRule (a .m)) (length (a .latch .now)) (a .s .now) (a .from) (a .defined .now) (l .defined) (latchRow (l .latch) (l .next)) (l .here) (l .i) (l .inv .0) (omega (arith, c .loop-test .left, l .inv .1))
 
 pub latch-lines-spec : {M : Type 1} → statement M
 latch-lines-spec =
@@ -146,7 +146,6 @@ latch-lines-spec =
     part-latch-line-end
     latch-line-requires
     enum-known-number
-    add-t22
     same-length
     same-length-2
     same-length-3
@@ -157,6 +156,7 @@ latch-lines-spec =
     mul-next
     slice-write-next
     mark-requires
+    add-here
     add-i
     loop-less
     loop-again

@@ -2,7 +2,7 @@
 use Prim.Native.Nat.{_/_}
 use borrow.Author.Needs.{needs}
 use lib.Seq.{set-out}
-use mathlib.Core.Path.{_≡_, refl, sym}
+use mathlib.Core.Path.{refl, sym}
 use Rattle.circuit.specs.Literal.{variable}
 use Rattle.reader.proofs.body.mark.Statement.{statement}
 use Rattle.reader.proofs.body.mark.Tie as tie

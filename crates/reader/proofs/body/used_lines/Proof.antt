@@ -1,6 +1,6 @@
 -- `reader::body::used_lines` meets its contract: next-state literals in line order, then the output. Assumes nothing.
 use borrow.Author.Needs.{needs}
-use mathlib.Core.Path.{_≡_, refl, sym, ap, _∙_, subst}
+use mathlib.Core.Path.{sym, ap, _∙_, subst}
 use Rattle.reader.proofs.laws.BodyLoop.{next-unknown, output-unknown, output-known}
 use Rattle.reader.specs.Marks.{unmarked}
 use Rattle.reader.specs.UsedAs.{UsedLines}

@@ -1,9 +1,7 @@
 -- `reader::fields::five_at` meets its contract: field after field, and nothing behind the last. Assumes nothing.
-use Prim.Native.Nat.{ℕ}
 use borrow.Author.Needs.{needs}
-use mathlib.Core.List.{List, [], _∷_}
-use mathlib.Core.Path.{_≡_, ap, _∙_, subst}
-use native.Mathlib.Omega.{arith}
+use mathlib.Core.List.{[], _∷_}
+use mathlib.Core.Path.{ap, _∙_, subst}
 use Rattle.text.specs.Line.{numbersOf, separators, prepend}
 use Rattle.reader.specs.NumberAt.{FieldAt}
 use Rattle.reader.proofs.laws.PositionFields.{fields-end, fields-more}

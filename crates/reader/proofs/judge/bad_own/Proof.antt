@@ -1,10 +1,10 @@
 -- `reader::judge::bad_own` meets its contract: each way out is one of the definition's tests. Assumes nothing.
 use Prim.Native.Nat.{_%_}
 use borrow.Author.Needs.{needs}
-use borrow.Author.Tests.{ltb-true, ltb-false, lt-ltb, le-ltb, le-leb, lt-leb, eq-eqb, ne-eqb}
-use mathlib.Core.Path.{_≡_, refl, sym, ap, _∙_}
-use Rattle.circuit.specs.Literal.{mayDefine, tooLarge, constant, variable}
-use Rattle.text.specs.Rules.{badOwn, firstOf}
+use borrow.Author.Tests.{le-leb, lt-leb, ne-eqb}
+use mathlib.Core.Path.{sym, _∙_}
+use Rattle.circuit.specs.Literal.{mayDefine}
+use Rattle.text.specs.Rules.{badOwn}
 use Rattle.reader.proofs.judge.bad_own.Statement.{statement}
 use Rattle.reader.proofs.judge.bad_own.Tie as tie
 

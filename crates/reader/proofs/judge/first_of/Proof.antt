@@ -1,8 +1,6 @@
 -- `reader::judge::first_of` meets its contract: the tests stand in the definition's order. Assumes nothing.
-use borrow.Author.Needs.{needs}
-use mathlib.Core.Path.{_≡_, refl, sym, ap, _∙_}
-use Rattle.reader.specs.Marks.{marked, unmarked, numberOr}
-use Rattle.text.specs.Rules.{badOwn, firstOf}
+use Rattle.reader.specs.Marks.{numberOr}
+use Rattle.text.specs.Rules.{firstOf}
 use Rattle.reader.proofs.judge.first_of.Statement.{statement}
 use Rattle.reader.proofs.judge.first_of.Tie as tie
 

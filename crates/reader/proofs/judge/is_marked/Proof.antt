@@ -1,10 +1,10 @@
 -- `reader::judge::is_marked` meets its contract: past the marks nothing is marked. Assumes nothing.
 use Prim.Native.Nat.{_/_}
 use borrow.Author.Needs.{needs}
-use lib.ListN.{getD, List·getD-eq-default}
-use mathlib.Core.Path.{_≡_, refl, sym, ap, _∙_}
-use Rattle.circuit.specs.Literal.{mayDefine, tooLarge, constant, variable}
-use Rattle.reader.specs.Marks.{marked, unmarked, numberOr}
+use lib.ListN.{List·getD-eq-default}
+use mathlib.Core.Path.{refl}
+use Rattle.circuit.specs.Literal.{variable}
+use Rattle.reader.specs.Marks.{marked}
 use Rattle.reader.proofs.judge.is_marked.Statement.{statement}
 use Rattle.reader.proofs.judge.is_marked.Tie as tie
 

@@ -1,9 +1,9 @@
 -- `reader::judge::is_unknown` meets its contract: each way out is one of the definition's tests. Assumes nothing.
 use borrow.Author.Needs.{needs}
-use borrow.Author.Tests.{ltb-true, ltb-false, lt-ltb, le-ltb, le-leb, lt-leb, eq-eqb, ne-eqb}
-use mathlib.Core.Path.{_≡_, refl, sym, ap, _∙_}
-use Rattle.circuit.specs.Literal.{mayDefine, tooLarge, constant, variable}
-use Rattle.reader.specs.Marks.{marked, unmarked, numberOr}
+use borrow.Author.Tests.{lt-ltb, le-ltb}
+use mathlib.Core.Path.{sym, _∙_}
+use Rattle.circuit.specs.Literal.{constant}
+use Rattle.reader.specs.Marks.{unmarked}
 use Rattle.reader.proofs.judge.is_unknown.Statement.{statement}
 use Rattle.reader.proofs.judge.is_unknown.Tie as tie
 

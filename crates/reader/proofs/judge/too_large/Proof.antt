@@ -1,6 +1,6 @@
 -- `reader::judge::too_large` meets its contract: it is the definition's own test. Assumes nothing.
 use borrow.Author.Needs.{needs}
-use mathlib.Core.Path.{_≡_, refl, sym, ap, _∙_}
+use mathlib.Core.Path.{refl}
 use Rattle.circuit.specs.Literal.{tooLarge}
 use Rattle.reader.proofs.judge.too_large.Statement.{statement}
 use Rattle.reader.proofs.judge.too_large.Tie as tie

@@ -2,11 +2,11 @@
 -- definition. Assumes nothing.
 use Prim.Native.Nat.{_+_, _-_}
 use borrow.Author.Needs.{needs}
-use mathlib.Core.Path.{_≡_, refl, sym, _∙_}
+use mathlib.Core.Path.{_≡_, sym, _∙_}
 use native.Mathlib.Numerals.{add-one}
 use native.Mathlib.Omega.{arith}
 use Rattle.reader.specs.NumberAt.{digitAt}
-use Rattle.reader.proofs.laws.PositionNumber.{Scanned, Scanning, scanned-start, scanned-more, scanned-below, too-long, no-digits, leading-zero, number-here}
+use Rattle.reader.proofs.laws.PositionNumber.{Scanning, scanned-start, scanned-more, scanned-below, too-long, no-digits, leading-zero, number-here}
 use Rattle.reader.proofs.number.number_at.Statement.{statement}
 use Rattle.reader.proofs.number.number_at.Tie as tie
 
@@ -30,7 +30,6 @@ loop-holds c =
 
 sub-if1 : tie.Need-sub-if1 Inv-loop μ-loop
 sub-if1 c =
-    let a = c .before .before .before .before .args in
     let l = c .before .loop in
     omega (arith, l .inv .scanned .count)
 
@@ -64,7 +63,6 @@ digit-at-requires-2 c κs = search needs
 
 loop-less : tie.Need-loop-less Inv-loop μ-loop
 loop-less c =
-    let a = c .before .before .before .before .before .before .args in
     let l = c .before .before .before .loop in
     omega (arith, l .inv .short)
 
@@ -88,7 +86,6 @@ returns-2 c =
 
 sub-if4 : tie.Need-sub-if4 Inv-loop μ-loop
 sub-if4 c =
-    let a = c .before .before .before .before .before .before .args in
     let l = c .before .before .before .loop in
     omega (arith, l .inv .scanned .count)
 

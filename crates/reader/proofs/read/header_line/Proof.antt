@@ -1,6 +1,6 @@
 -- `reader::read::header_line` meets its contract: the word, then five numbers. Assumes nothing.
 use borrow.Author.Needs.{needs}
-use mathlib.Core.Path.{_≡_, refl, sym, ap, _∙_, subst}
+use mathlib.Core.Path.{sym, _∙_}
 use Rattle.reader.proofs.laws.FileLoop.{header-as, header-none}
 use Rattle.reader.proofs.read.header_line.Statement.{statement}
 use Rattle.reader.proofs.read.header_line.Tie as tie

@@ -1,9 +1,8 @@
 -- `reader::read::read` meets its contract: length, header, limits, and then the lines, in the order of the numbers. Assumes nothing.
-use Prim.Native.Nat.{ℕ, _≤_}
 use borrow.Author.Needs.{needs}
 use lib.ListN.{length, take}
 use lib.Seq.{length-take-le}
-use mathlib.Core.Path.{_≡_, refl, sym, ap, _∙_, subst}
+use mathlib.Core.Path.{_≡_, refl, sym, _∙_, subst}
 use native.Mathlib.Nat.{zero-add}
 use native.Mathlib.Omega.{arith}
 use Rattle.circuit.specs.Answer.{ReadAs}
@@ -60,7 +59,6 @@ within-requires : tie.Need-within-requires
 within-requires c κs =
     let file = c .before .before .before .before .before .before .before .before .args .file .now in
     let e = c .before .before .before .before .before .line-end in
-    let line : take (e .result) file ≡ firstLine file = first-part file (e .result) (e .ensures) in
     let g = c .before .m .given in
     let (numbers, small) = subst (HeaderAs (take (e .result) file)) (g .1) (c .before .before .before .header-line .ensures) in
     small
@@ -69,7 +67,6 @@ cast-read-lines : tie.Need-cast-read-lines
 cast-read-lines c =
     let file = c .before .before .before .before .before .before .before .before .before .before .args .file .now in
     let e = c .before .before .before .before .before .before .before .line-end in
-    let line : take (e .result) file ≡ firstLine file = first-part file (e .result) (e .ensures) in
     let g = c .before .before .before .m .given in
     let (numbers, small) = subst (HeaderAs (take (e .result) file)) (g .1) (c .before .before .before .before .before .header-line .ensures) in
     omega (arith, within-says (g .0 .0) (g .0 .1 .0) (g .0 .1 .1 .0) (g .0 .1 .1 .1 .0) (g .0 .1 .1 .1 .1 .0) (sym (c .before .within .ensures) ∙ c .if2 .taken) .largest)
@@ -87,12 +84,12 @@ read-lines-requires : tie.Need-read-lines-requires
 read-lines-requires c κs =
     let file = c .before .before .before .before .before .before .before .before .before .before .args .file .now in
     let e = c .before .before .before .before .before .before .before .line-end in
-    let line : take (e .result) file ≡ firstLine file = first-part file (e .result) (e .ensures) in
     let g = c .before .before .before .m .given in
     let (numbers, small) = subst (HeaderAs (take (e .result) file)) (g .1) (c .before .before .before .before .before .header-line .ensures) in
     let says = within-says (g .0 .0) (g .0 .1 .0) (g .0 .1 .1 .0) (g .0 .1 .1 .1 .0) (g .0 .1 .1 .1 .1 .0) (sym (c .before .within .ensures) ∙ c .if2 .taken) in
     record {
       within = line-ends-within file 0 (e .result) (e .ensures) (omega arith);
+      second = refl;
       largest = says .largest;
       inputs-most = says .inputs-most;
       latches-most = says .latches-most;

@@ -1,6 +1,7 @@
 -- `reader::read::refused` meets its contract: the empty circuit is all zeros. Assumes nothing.
 use borrow.Author.Needs.{needs}
-use mathlib.Core.Path.{_≡_, refl, sym, ap, _∙_, subst}
+use mathlib.Core.Path.{sym, _∙_}
+use Rattle.circuit.specs.Limits.{base}
 use Rattle.circuit.specs.Stored.{stored, emptyCircuit}
 use Rattle.circuit.specs.declared.Read.the-variants.{Refused}
 use Rattle.reader.proofs.laws.ReadLoop.{padded-none}
@@ -30,14 +31,14 @@ returns c = λ x.
             inputs = 0;
             latches = 0;
             gates = 0;
-            input = (c .before .before .before .no-inputs .ensures ∙ sym (padded-none 13)) x;
-            controllable = (c .before .before .no-flags .ensures ∙ sym (padded-none 13)) x;
-            latch = (c .before .no-latches .ensures ∙ sym (padded-none 10)) x;
-            next = (c .before .no-latches .ensures ∙ sym (padded-none 10)) x;
+            input = (c .before .before .before .no-inputs .ensures ∙ sym (padded-none (base .inputs))) x;
+            controllable = (c .before .before .no-flags .ensures ∙ sym (padded-none (base .inputs))) x;
+            latch = (c .before .no-latches .ensures ∙ sym (padded-none (base .latches))) x;
+            next = (c .before .no-latches .ensures ∙ sym (padded-none (base .latches))) x;
             output = 0;
-            gate = (c .no-gates .ensures ∙ sym (padded-none 1000)) x;
-            left = (c .no-gates .ensures ∙ sym (padded-none 1000)) x;
-            right = (c .no-gates .ensures ∙ sym (padded-none 1000)) x;
+            gate = (c .no-gates .ensures ∙ sym (padded-none (base .variable))) x;
+            left = (c .no-gates .ensures ∙ sym (padded-none (base .variable))) x;
+            right = (c .no-gates .ensures ∙ sym (padded-none (base .variable))) x;
           };
     }
 

@@ -3,10 +3,11 @@ use Prim.Native.Nat.{ℕ, _+_}
 use borrow.Author.Needs.{needs}
 use lib.ListN.{length, getD}
 use mathlib.Core.List.{List}
-use mathlib.Core.Path.{_≡_, refl, sym, ap, _∙_, subst, subst₃}
+use mathlib.Core.Path.{sym, ap, _∙_, subst, subst₂}
 use native.Mathlib.Omega.{arith}
 use Rattle.below.proofs.laws.Table.{length-table}
-use Rattle.reader.proofs.laws.TextLoop.{zeros-at, text-refused, text-as}
+use Rattle.circuit.specs.Limits.{base}
+use Rattle.reader.proofs.laws.TextLoop.{zeros-at, small-line, text-refused, text-as}
 use Rattle.reader.specs.BodyRead.{headerWith, BodiedAs}
 use Rattle.reader.specs.TextAt.{NamedAs}
 use Rattle.reader.proofs.read.text_lines.Statement.{statement}
@@ -20,19 +21,20 @@ slice-aggregate-body-lines c = search needs
 
 body-lines-requires : tie.Need-body-lines-requires
 body-lines-requires c κs =
-    let a = c .before .before .before .before .before .before .before .before .before .before .before .before .before .before .before .before .args in
     let p = c .before .before .before .before .before .before .before .before .before .before .before .before .before .before .before .before .pre in
     record {
       first =
           record {
             within = p .within;
+            places = omega (arith, p .second, p .inputs, p .latches);
             largest = p .largest;
-            marks-all = ap length (c .before .before .before .before .before .before .before .no-marks .ensures) ∙ length-table (λ i. 0) 1001;
-            marks-none = λ i. ap (λ (l : List ℕ). getD l i 0) (c .before .before .before .before .before .before .before .no-marks .ensures) ∙ zeros-at 1001 i;
-            inputs = p .inputs;
-            latches = p .latches;
+            marks-all = ap length (c .before .before .before .before .before .before .before .no-marks .ensures) ∙ length-table (λ i. 0) (base .variable + 1);
+            marks-none = λ i. ap (λ (l : List ℕ). getD l i 0) (c .before .before .before .before .before .before .before .no-marks .ensures) ∙ zeros-at (base .variable + 1) i;
             nexts = p .nexts;
           };
+      second = p .second;
+      inputs = p .inputs;
+      latches = p .latches;
       gates = p .gates;
       lefts = p .lefts;
       rights = p .rights;
@@ -41,20 +43,20 @@ body-lines-requires c κs =
 enum-known-r : tie.Need-enum-known-r
 enum-known-r c = search needs
 
-enum-known-at : tie.Need-enum-known-at
-enum-known-at c = search needs
+enum-known-behind : tie.Need-enum-known-behind
+enum-known-behind c = search needs
 
 name-lines-requires : tie.Need-name-lines-requires
 name-lines-requires c κs =
     let a = c .before .before .before .before .before .before .before .before .before .before .before .before .before .before .before .before .before .before .before .before .before .before .before .before .before .before .before .before .before .before .before .before .before .before .args in
     let p = c .before .before .before .before .before .before .before .before .before .before .before .before .before .before .before .before .before .before .before .before .before .before .before .before .before .before .before .before .before .before .before .before .before .before .pre in
     let y = c .before .before .before .before .before .before .before .before .before .before .before .before .before .before .before .before .before .body-lines in
-    let w = subst (BodiedAs (headerWith (a .m) (length (a .input .now)) (length (a .latch .now)) (length (a .gate .now))) (a .s .now) (a .from) (y .last .1 .1 .1 .1 .0) (y .last .1 .1 .1 .1 .1 .0) (y .last .1 .1 .1 .1 .1 .1 .0) (y .last .1 .1 .1 .1 .1 .1 .1 .0) (y .last .1 .1 .1 .1 .1 .1 .1 .1 .0) (y .last .1 .1 .1 .1 .1 .1 .1 .1 .1 .0)) (c .before .before .at .given .1) (y .ensures) in
+    let w = subst (BodiedAs (headerWith (a .m) (length (a .input .now)) (length (a .latch .now)) (length (a .gate .now))) (a .s .now) (a .from) (y .last .1 .1 .1 .1 .0) (y .last .1 .1 .1 .1 .1 .0) (y .last .1 .1 .1 .1 .1 .1 .0) (y .last .1 .1 .1 .1 .1 .1 .1 .0) (y .last .1 .1 .1 .1 .1 .1 .1 .1 .0) (y .last .1 .1 .1 .1 .1 .1 .1 .1 .1 .0)) (c .before .before .behind .given .1) (y .ensures) in
     record {
       within = w .within;
+      places = small-line (a .m) (length (a .input .now)) (length (a .latch .now)) (length (a .gate .now)) (c .before .before .behind .given .0 .0 .line) (w .line) (p .inputs) (p .latches) (p .gates);
       inputs-most = omega (arith, y .kept .1 .1 .1 .1 .0, p .inputs);
       latches-most = omega (arith, y .kept .1 .1 .1 .1 .1 .0, p .latches);
-      gates-most = omega (arith, y .kept .1 .1 .1 .1 .1 .1 .1 .0, p .gates);
       flags-all = p .flags-all ∙ sym (y .kept .1 .1 .1 .1 .0);
       flags-none = p .flags-none;
     }
@@ -80,7 +82,6 @@ same-length-6 c = search needs
 returns : tie.Need-returns
 returns c =
     let a = c .before .before .before .before .before .before .before .before .before .before .before .before .before .before .before .before .before .before .before .before .before .before .before .before .before .before .before .before .before .before .before .before .before .args in
-    let p = c .before .before .before .before .before .before .before .before .before .before .before .before .before .before .before .before .before .before .before .before .before .before .before .before .before .before .before .before .before .before .before .before .before .pre in
     let y = c .before .before .before .before .before .before .before .before .before .before .before .before .before .before .before .before .body-lines in
     let w = subst (BodiedAs (headerWith (a .m) (length (a .input .now)) (length (a .latch .now)) (length (a .gate .now))) (a .s .now) (a .from) (y .last .1 .1 .1 .1 .0) (y .last .1 .1 .1 .1 .1 .0) (y .last .1 .1 .1 .1 .1 .1 .0) (y .last .1 .1 .1 .1 .1 .1 .1 .0) (y .last .1 .1 .1 .1 .1 .1 .1 .1 .0) (y .last .1 .1 .1 .1 .1 .1 .1 .1 .1 .0)) (c .before .r .given .1) (y .ensures) in
     text-refused (a .m) (length (a .input .now)) (length (a .latch .now)) (length (a .gate .now)) (a .s .now) (a .from) (c .before .r .given .0 .0 .number) (c .before .r .given .0 .0 .place) w
@@ -109,12 +110,11 @@ same-length-13 c = search needs
 returns-2 : tie.Need-returns-2
 returns-2 c =
     let a = c .before .before .before .before .before .before .before .before .before .before .before .before .before .before .before .before .before .before .before .before .before .before .before .before .before .before .before .before .before .before .before .before .before .before .before .before .before .args in
-    let p = c .before .before .before .before .before .before .before .before .before .before .before .before .before .before .before .before .before .before .before .before .before .before .before .before .before .before .before .before .before .before .before .before .before .before .before .before .before .pre in
     let y = c .before .before .before .before .before .before .before .before .before .before .before .before .before .before .before .before .before .before .before .before .body-lines in
-    let w = subst (BodiedAs (headerWith (a .m) (length (a .input .now)) (length (a .latch .now)) (length (a .gate .now))) (a .s .now) (a .from) (y .last .1 .1 .1 .1 .0) (y .last .1 .1 .1 .1 .1 .0) (y .last .1 .1 .1 .1 .1 .1 .0) (y .last .1 .1 .1 .1 .1 .1 .1 .0) (y .last .1 .1 .1 .1 .1 .1 .1 .1 .0) (y .last .1 .1 .1 .1 .1 .1 .1 .1 .1 .0)) (c .before .before .before .before .before .at .given .1) (y .ensures) in
-    text-as (a .m) (length (a .input .now)) (length (a .latch .now)) (length (a .gate .now)) (a .s .now) (a .from) (y .last .1 .1 .1 .1 .0) (c .before .before .name-lines .last .1 .1 .1 .1 .1 .1 .0) (y .last .1 .1 .1 .1 .1 .0) (y .last .1 .1 .1 .1 .1 .1 .0) (y .last .1 .1 .1 .1 .1 .1 .1 .0) (y .last .1 .1 .1 .1 .1 .1 .1 .1 .0) (y .last .1 .1 .1 .1 .1 .1 .1 .1 .1 .0)
-    (c .before .before .before .before .before .at .given .0 .0) (c .before .before .before .before .before .at .given .0 .1 .0) w (y .kept .1 .1 .1 .1 .0) (c .before .before .name-lines .result)
-    (subst₃ (λ (i l g : ℕ). NamedAs i l g (a .s .now) (c .before .before .before .before .before .at .given .0 .0) (c .before .before .before .before .before .at .given .0 .1 .0) (c .before .before .name-lines .last .1 .1 .1 .1 .1 .1 .0) (c .before .before .name-lines .result)) (y .kept .1 .1 .1 .1 .0) (y .kept .1 .1 .1 .1 .1 .0) (y .kept .1 .1 .1 .1 .1 .1 .1 .0) (c .before .before .name-lines .ensures))
+    let w = subst (BodiedAs (headerWith (a .m) (length (a .input .now)) (length (a .latch .now)) (length (a .gate .now))) (a .s .now) (a .from) (y .last .1 .1 .1 .1 .0) (y .last .1 .1 .1 .1 .1 .0) (y .last .1 .1 .1 .1 .1 .1 .0) (y .last .1 .1 .1 .1 .1 .1 .1 .0) (y .last .1 .1 .1 .1 .1 .1 .1 .1 .0) (y .last .1 .1 .1 .1 .1 .1 .1 .1 .1 .0)) (c .before .before .before .before .before .behind .given .1) (y .ensures) in
+    text-as (a .m) (length (a .input .now)) (length (a .latch .now)) (length (a .gate .now)) (a .s .now) (a .from) (y .last .1 .1 .1 .1 .0) (c .before .before .name-lines .last .1 .1 .1 .1 .1 .0) (y .last .1 .1 .1 .1 .1 .0) (y .last .1 .1 .1 .1 .1 .1 .0) (y .last .1 .1 .1 .1 .1 .1 .1 .0) (y .last .1 .1 .1 .1 .1 .1 .1 .1 .0) (y .last .1 .1 .1 .1 .1 .1 .1 .1 .1 .0)
+    (c .before .before .before .before .before .behind .given .0 .0) (c .before .before .before .before .before .behind .given .0 .1 .0) w (y .kept .1 .1 .1 .1 .0) (c .before .before .name-lines .result)
+    (subst₂ (λ (i l : ℕ). NamedAs i l (a .s .now) (c .before .before .before .before .before .behind .given .0 .0) (c .before .before .before .before .before .behind .given .0 .1 .0) (c .before .before .name-lines .last .1 .1 .1 .1 .1 .0) (c .before .before .name-lines .result)) (y .kept .1 .1 .1 .1 .0) (y .kept .1 .1 .1 .1 .1 .0) (c .before .before .name-lines .ensures))
 
 pub text-lines-spec : {M : Type 1} → statement M
 text-lines-spec =
@@ -124,7 +124,7 @@ text-lines-spec =
     slice-aggregate-body-lines
     body-lines-requires
     enum-known-r
-    enum-known-at
+    enum-known-behind
     name-lines-requires
     same-length
     same-length-2

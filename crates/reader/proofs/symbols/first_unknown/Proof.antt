@@ -1,8 +1,8 @@
 -- `reader::symbols::first_unknown` meets its contract: those passed are known. Assumes nothing.
-use Prim.Native.Nat.{ℕ, _+_, _-_, _≤_}
+use Prim.Native.Nat.{_-_, _≤_}
 use borrow.Author.Needs.{needs}
-use lib.ListN.{length, getD, drop}
-use mathlib.Core.Path.{_≡_, refl, sym, ap, _∙_}
+use lib.ListN.{length}
+use mathlib.Core.Path.{sym, ap, _∙_}
 use native.Mathlib.Omega.{arith}
 use Rattle.reader.proofs.laws.UsedLoop.{Known, known-start, known-more, unknown-here, all-known}
 use Rattle.reader.specs.Marks.{unmarked}

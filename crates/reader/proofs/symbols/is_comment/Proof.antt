@@ -1,12 +1,11 @@
 -- `reader::symbols::is_comment` meets its contract: two bytes, one after the other. Assumes nothing.
-use Prim.Native.Nat.{ℕ, _+_, _-_, _<_, _≤_}
+use Prim.Native.Nat.{_-_}
 use borrow.Author.Needs.{needs}
 use borrow.Author.Tests.{eq-eqb, ne-eqb}
 use lib.Dec.{eqb}
-use lib.ListN.{length, getD}
+use lib.ListN.{getD}
 use mathlib.Core.Bool.{Bool, true, false, _&&_}
-use mathlib.Core.Path.{_≡_, refl, sym, ap, _∙_, subst}
-use native.Mathlib.Omega.{arith}
+use mathlib.Core.Path.{_≡_, refl, sym, ap, _∙_}
 use Rattle.reader.proofs.laws.PositionSymbol.{comment-two, comment-other}
 use Rattle.reader.proofs.symbols.is_comment.Statement.{statement}
 use Rattle.reader.proofs.symbols.is_comment.Tie as tie

@@ -1,7 +1,6 @@
 -- `reader::symbols::is_controllable` meets its contract: the letter, then the fixed string. Assumes nothing.
 use borrow.Author.Needs.{needs}
 use borrow.Author.Tests.{eq-eqb, ne-eqb}
-use mathlib.Core.Path.{_≡_, refl, sym, ap, _∙_, subst}
 use Rattle.reader.proofs.symbols.is_controllable.Statement.{statement}
 use Rattle.reader.proofs.symbols.is_controllable.Tie as tie
 

@@ -1,12 +1,9 @@
 -- `reader::symbols::is_named` meets its contract: each way out is one of the definition's tests. Assumes nothing.
-use Prim.Native.Nat.{ℕ, _+_, _-_}
+use Prim.Native.Nat.{_+_, _-_}
 use borrow.Author.Needs.{needs}
 use borrow.Author.Tests.{eq-eqb, ne-eqb, le-leb, lt-leb}
-use lib.Dec.{eqb, leb}
 use lib.ListN.{length, getD, drop}
-use mathlib.Core.Bool.{Bool, true, false, _&&_}
-use mathlib.Core.Path.{_≡_, refl, sym, ap, _∙_}
-use native.Mathlib.Omega.{arith}
+use mathlib.Core.Path.{refl, sym, _∙_}
 use Rattle.reader.proofs.laws.PositionSymbol.{well-named, unnamed-past, ends-here, ends-past, ends-other, ends-later}
 use Rattle.text.specs.Number.{run}
 use Rattle.text.specs.Symbol.{isNameByte}

@@ -1,6 +1,6 @@
 -- `reader::symbols::is_set` meets its contract: past the marks nothing is set. Assumes nothing.
 use borrow.Author.Needs.{needs}
-use lib.ListN.{getD, List·getD-eq-default}
+use lib.ListN.{List·getD-eq-default}
 use Rattle.reader.proofs.symbols.is_set.Statement.{statement}
 use Rattle.reader.proofs.symbols.is_set.Tie as tie
 

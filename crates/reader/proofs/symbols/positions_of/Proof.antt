@@ -1,8 +1,7 @@
 -- `reader::symbols::positions_of` meets its contract: letter by letter. Assumes nothing.
-use borrow.Author.Needs.{needs}
 use borrow.Author.Tests.{eq-eqb, ne-eqb}
 use Rattle.text.specs.Symbol.{positions}
-use Rattle.reader.specs.SymbolAs.{counted, slotOf}
+use Rattle.reader.specs.SymbolAs.{counted}
 use Rattle.reader.proofs.symbols.positions_of.Statement.{statement}
 use Rattle.reader.proofs.symbols.positions_of.Tie as tie
 

@@ -1,7 +1,7 @@
 -- `reader::symbols::slot_of` meets its contract: letter by letter. Assumes nothing.
 use borrow.Author.Needs.{needs}
 use borrow.Author.Tests.{eq-eqb, ne-eqb}
-use Rattle.reader.specs.SymbolAs.{counted, slotOf}
+use Rattle.reader.specs.SymbolAs.{slotOf}
 use Rattle.reader.proofs.symbols.slot_of.Statement.{statement}
 use Rattle.reader.proofs.symbols.slot_of.Tie as tie
 

@@ -1,8 +1,8 @@
 -- `reader::symbols::starts_with` meets its contract: what is left of the string, against what is left of the text. Assumes nothing.
 use Prim.Native.Nat.{ℕ, _+_, _-_}
 use borrow.Author.Needs.{needs}
-use lib.ListN.{length, getD, drop}
-use mathlib.Core.Path.{_≡_, refl, sym, ap, _∙_}
+use lib.ListN.{length, drop}
+use mathlib.Core.Path.{_≡_, sym, ap, _∙_}
 use native.Mathlib.Nat.{add-zero}
 use native.Mathlib.Omega.{arith}
 use Rattle.bits.specs.Bytes.{startsWith}

@@ -3,7 +3,7 @@ use Prim.Native.Nat.{ℕ, _≤_, _<_}
 use borrow.Author.Needs.{needs}
 use lib.Dec.{eqb}
 use lib.ListN.{getD}
-use mathlib.Core.Path.{_≡_, refl, sym, ap, _∙_, subst}
+use mathlib.Core.Path.{sym, ap, _∙_, subst}
 use Rattle.reader.proofs.laws.SymbolHere.{badly-named, position-above, named-before, symbol-here}
 use Rattle.reader.proofs.symbols.symbol_at.Statement.{statement}
 use Rattle.reader.proofs.symbols.symbol_at.Tie as tie

@@ -1,8 +1,7 @@
 -- `reader::symbols::symbol_line` meets its contract: the line `c`, or a letter, a number and what follows. Assumes nothing.
-use Prim.Native.Nat.{ℕ, _<_}
 use borrow.Author.Needs.{needs}
-use lib.ListN.{length, getD, drop}
-use mathlib.Core.Path.{_≡_, refl, sym, ap, _∙_, subst}
+use lib.ListN.{getD, drop}
+use mathlib.Core.Path.{sym, _∙_, subst}
 use native.Mathlib.Omega.{arith}
 use Rattle.reader.proofs.laws.SymbolHere.{symbol-empty, symbol-unnumbered, symbol-numbered, symbol-whole}
 use Rattle.reader.specs.NumberAt.{NumberAt}

@@ -7,7 +7,7 @@ use Rattle.bits.proofs.laws.Wrote.{wrote-put}
 use Rattle.circuit.specs.Stored.{lent}
 use Rattle.records.specs.Record.{circuitKind, regionKind, replyKind}
 use Rattle.solver.specs.Over.{rankZero}
-use Rattle.writer.specs.Rows.{regionByte}
+use Rattle.solver.specs.RegionTable.{regionByte}
 use Rattle.writer.proofs.laws.Bounds.{few-replies, solved-small, head-place, table-place}
 use Rattle.writer.proofs.laws.InParts.{no-reply-room, replies-in-parts}
 use borrow.Author.Needs.{needs}

@@ -1,67 +1,66 @@
--- `writer::tables::put_region` writes the region: each turn one more byte behind those before it. Assumes nothing.
-use Prim.Native.Nat.{_+_, _-_, _/_}
+-- `writer::tables::put_region` writes the front of the region. Assumes nothing.
+use Prim.Native.Nat.{ℕ, _+_, _/_, _^_, _≤_}
 use native.Mathlib.Omega.{arith}
-use mathlib.Core.List.{[], _∷_}
+use mathlib.Core.List.{List}
+use mathlib.Core.Path.{_≡_, sym, ap, _∙_, subst}
+use lib.ListN.{length, take}
+use Rattle.below.specs.Table.{table}
+use Rattle.below.proofs.laws.Table.{length-table}
+use Rattle.bits.specs.Wrote.{Wrote}
+use Rattle.bits.proofs.laws.Wrote.{wrote-put}
+use Rattle.circuit.specs.Limits.{base}
 use Rattle.solver.specs.Over.{rankZero}
-use Rattle.writer.specs.Rows.{regionByte}
-use Rattle.writer.proofs.laws.Turns.{Turns, turns-start, cells-more, cells-end}
+use Rattle.solver.specs.RegionTable.{regionByte, regionTable}
+use Rattle.solver.proofs.laws.RegionByte.{region-front}
 use borrow.Author.Needs.{needs}
 use Rattle.writer.proofs.tables.put_region.Statement.{statement}
 use Rattle.writer.proofs.tables.put_region.Tie as tie
 
-abbrev Inv-loop : tie.InvT-loop
-Inv-loop out₀ at ranks states n behind₀ j₀ out behind j = Turns (λ k. regionByte (rankZero ranks) states k ∷ []) 1 n at out₀ out behind j
+-- what is written: as many bytes as the states take
+front-is : (ranks : List ℕ) (states : ℕ) (region : List ℕ) → region ≡ regionTable (rankZero ranks) states → states ≤ 2 ^ base .latches → take ((states + 7) / 8) region ≡ table (regionByte (rankZero ranks) states) ((states + 7) / 8)
+front-is ranks states region e h = ap (take ((states + 7) / 8)) e ∙ region-front (rankZero ranks) states ((states + 7) / 8) (omega arith)
 
-abbrev μ-loop : tie.MeasureT-loop
-μ-loop out₀ at ranks states n behind₀ j₀ out behind j = n - j
+front-long : (ranks : List ℕ) (states : ℕ) (region : List ℕ) → region ≡ regionTable (rankZero ranks) states → states ≤ 2 ^ base .latches → (states + 7) / 8 ≡ length (take ((states + 7) / 8) region)
+front-long ranks states region e h = sym (ap length (front-is ranks states region e h) ∙ length-table (regionByte (rankZero ranks) states) ((states + 7) / 8))
 
-add-n : tie.Need-add-n Inv-loop μ-loop
+region-of-requires : tie.Need-region-of-requires
+region-of-requires c κs = search needs
+
+add-n : tie.Need-add-n
 add-n c = search needs
 
-loop-holds : tie.Need-loop-holds Inv-loop μ-loop
-loop-holds c = let a = c .before .before .args in turns-start (λ k. regionByte (rankZero (a .ranks .now)) (a .states) k ∷ []) 1 ((a .states + 7) / 8) (a .at)
+array-share-prefix-region : tie.Need-array-share-prefix-region
+array-share-prefix-region c = search needs
 
-region-byte-requires : tie.Need-region-byte-requires Inv-loop μ-loop
-region-byte-requires c κs = omega arith
+slice-aggregate-put-bytes : tie.Need-slice-aggregate-put-bytes
+slice-aggregate-put-bytes c = front-long (c .before .before .before .before .before .args .ranks .now) (c .before .before .before .before .before .args .states) (c .before .before .region-of .result) (c .before .before .region-of .ensures) (c .before .before .before .before .before .pre .1)
 
-slice-aggregate-put-bytes : tie.Need-slice-aggregate-put-bytes Inv-loop μ-loop
-slice-aggregate-put-bytes c = search needs
-
-put-bytes-requires : tie.Need-put-bytes-requires Inv-loop μ-loop
+put-bytes-requires : tie.Need-put-bytes-requires
 put-bytes-requires c κs = search needs
 
-add-behind : tie.Need-add-behind Inv-loop μ-loop
-add-behind c = omega (arith, c .before .before .before .before .before .before .before .loop .inv .place, c .before .before .before .before .before .before .before .loop .inv .within, c .before .before .put-bytes .ensures .0)
+add-result : tie.Need-add-result
+add-result c = let r = c .before .before .before .before .before .region-of in
+    let s = c .before .before .before .before .before .before .before .before in
+    omega (arith, c .before .before .put-bytes .ensures .0, front-long (s .args .ranks .now) (s .args .states) (r .result) (r .ensures) (s .pre .1))
 
-add-j : tie.Need-add-j Inv-loop μ-loop
-add-j c = search needs
+same-length : tie.Need-same-length
+same-length c = search needs
 
-loop-less : tie.Need-loop-less Inv-loop μ-loop
-loop-less c = omega arith
-
-loop-again : tie.Need-loop-again Inv-loop μ-loop
-loop-again c = let a = c .before .before .before .before .before .before .before .before .before .before .args in let w = c .before .before .put-bytes in let b = c .before .before .before .before .before .region-byte in cells-more (regionByte (rankZero (a .ranks .now)) (a .states)) ((a .states + 7) / 8) (a .at) (b .result) (w .result) (c .before .before .before .before .before .before .before .loop .inv) (c .before .before .before .before .before .before .loop-test .taken) (b .ensures) (w .ensures .0) (w .ensures .1)
-
-same-length : tie.Need-same-length Inv-loop μ-loop
-same-length c = c .before .loop .inv .wrote .long
-
-returns : tie.Need-returns Inv-loop μ-loop
-returns c = let a = c .before .before .before .before .args in cells-end (regionByte (rankZero (a .ranks .now)) (a .states)) ((a .states + 7) / 8) (a .at) (c .before .loop .inv) (c .loop-test .left)
+returns : tie.Need-returns
+returns c = let r = c .before .before .before .before .before .region-of in
+    let s = c .before .before .before .before .before .before .before .before in
+    let w = c .before .before .put-bytes .ensures in
+    subst (λ (l : List ℕ). Wrote l (s .args .at) (s .args .out .now) (c .before .before .put-bytes .last .0) (s .args .at + c .before .before .put-bytes .result)) (front-is (s .args .ranks .now) (s .args .states) (r .result) (r .ensures) (s .pre .1)) (wrote-put (ap (λ (n : ℕ). s .args .at + n) (w .0)) (w .1))
 
 pub put-region-spec : {M : Type 1} → statement M
 put-region-spec =
     tie.close
     (tie.spec
-    Inv-loop
-    μ-loop
+    region-of-requires
     add-n
-    loop-holds
-    region-byte-requires
+    array-share-prefix-region
     slice-aggregate-put-bytes
     put-bytes-requires
-    add-behind
-    add-j
-    loop-less
-    loop-again
+    add-result
     same-length
     returns)

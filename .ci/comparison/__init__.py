@@ -1,0 +1,1 @@
+"""What `.ci/compare` compares, a module for each program or idea."""

@@ -1,0 +1,15 @@
+-- `capi::plain::counts` meets its contract: the counts of the circuit's own lists. Assumes nothing.
+use Rattle.circuit.specs.Stored.{meant}
+use borrow.Author.Needs.{needs}
+use Rattle.capi.proofs.plain.counts.Statement.{statement}
+use Rattle.capi.proofs.plain.counts.Tie as tie
+
+counts-lent-requires : tie.Need-counts-lent-requires
+counts-lent-requires c κs = search needs
+
+returns : tie.Need-returns
+unfolding meant
+returns c = c .counts-lent .ensures
+
+pub counts-spec : {M : Type 1} → statement M
+counts-spec = tie.close (tie.spec counts-lent-requires returns)

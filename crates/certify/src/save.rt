@@ -1,0 +1,70 @@
+// Saves bytes as a file: they are written under a temporary name beside its place, which is then renamed. So the file is never seen
+// half written, and where there is trouble it stays as it was.
+
+// Saves bytes as the file that an argument names, and answers whether they are saved.
+pub(crate) fn save_argument(i: usize, bytes: &[u8]) -> bool {
+    let mut name = io::buffer();
+    let filled = desk::argument(i, &mut name);
+    if filled.trouble {
+        return false;
+    }
+    let n = filled.bytes;
+    save(&name[..n], bytes)
+}
+
+fn save(name: &[u8], bytes: &[u8]) -> bool {
+    let mut space = io::buffer();
+    let n = put_temporary(&mut space, name);
+    let end = desk::front(&space, n);
+    save_by(&space[..end], name, bytes)
+}
+
+// The place's name, a full stop and the number of this process, which no other has. A name that is too long for the space can't be
+// opened either.
+fn put_temporary(space: &mut [u8], name: &[u8]) -> usize {
+    let stop = put::put_bytes(space, 0, name);
+    let number = std::num::wrapping_add_usize(stop, put::put_bytes(space, stop, b"."));
+    std::num::wrapping_add_usize(
+        number,
+        decimal::put_decimal(space, number, positive(libc::getpid())),
+    )
+}
+
+// The number, or 0 if it is negative.
+fn positive(number: i32) -> u64 {
+    if number > 0 { number as u64 } else { 0 }
+}
+
+fn save_by(temporary: &[u8], name: &[u8], bytes: &[u8]) -> bool {
+    let fd = os::create(temporary);
+    if fd < 0 {
+        os::fail(temporary);
+        return false;
+    }
+    let written = write_whole(fd, temporary, bytes);
+    if written && renamed(temporary, name) {
+        return true;
+    }
+    os::unlink(temporary);
+    false
+}
+
+fn write_whole(fd: i32, name: &[u8], bytes: &[u8]) -> bool {
+    let written = io::write_all(fd, bytes);
+    if !written {
+        os::fail(name);
+    }
+    let closed = libc::close(fd) == 0;
+    if written && !closed {
+        os::fail(name);
+    }
+    written && closed
+}
+
+fn renamed(from: &[u8], to: &[u8]) -> bool {
+    let done = os::rename(from, to) == 0;
+    if !done {
+        os::fail(to);
+    }
+    done
+}

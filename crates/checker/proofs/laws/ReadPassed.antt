@@ -1,0 +1,233 @@
+-- Reading a passed certificate by the starts and counts that the check answers (01, "The certificate"): what is read there is what the
+-- check judged, so it holds when played. Assumes nothing.
+use Prim.Native.Nat.{ℕ, _+_, _-_, _^_, _<_}
+use native.Mathlib.Omega.{arith}
+use mathlib.Core.Bool.{Bool, true, false, not, _||_, true≢false}
+use mathlib.Core.List.{List, [], _∷_}
+use mathlib.Core.Option.{some}
+use mathlib.Core.Path.{_≡_, refl, sym, ap, ap₂, _∙_, subst, subst₂}
+use borrow.Author.Tests.{eqb-true, not-false}
+use lib.Dec.{eqb}
+use lib.ListN.{length, take, drop}
+use Rattle.bits.specs.Digits.{AllBelow}
+use Rattle.circuit.specs.Circuit.{Circuit, latchCount, uncontrollableCount, controllableCount}
+use Rattle.circuit.specs.Outcome.{taken, _>>=_}
+use Rattle.circuit.proofs.laws.Outcome.{bind-taken}
+use Rattle.file.specs.CircuitIn.{circuitIn}
+use Rattle.game.specs.CircuitGame.{circuitGame, isRealizable}
+use Rattle.game.specs.Game.{Game}
+use Rattle.game.specs.Play.{RepliesHold, Seen, Strategy, ErrsWithin}
+use Rattle.records.specs.AttackTable.{attackLength, storedRank, storedAttack}
+use Rattle.records.specs.CircuitRecord.{circuitContents, circuitRecord}
+use Rattle.records.specs.Passed.{replyIn}
+use Rattle.records.specs.Record.{headLength}
+use Rattle.records.specs.RegionBits.{regionLength, holdsState, unusedBitSet}
+use Rattle.records.specs.ReplyBytes.{replyLength, storedReply}
+use Rattle.records.specs.Shape.{shapeOf, part}
+use Rattle.records.specs.Tables.{Tables, replies, attacks}
+use Rattle.records.proofs.laws.Parts.{reply-parts, attack-parts}
+use Rattle.records.proofs.laws.Passed.{reply-inside, region-in-front, replies-in-front, ranks-in-front, attacks-in-front}
+use Rattle.records.proofs.laws.Tables.{tables-begin}
+use Rattle.checker.specs.Answer.{Starts, ofReplies, ofAttacks, startsOf, answerOf}
+use Rattle.checker.specs.Check.{acceptedKinds, checkOf}
+use Rattle.checker.specs.Rules.{badReplyTables, badAttackTable}
+use Rattle.checker.proofs.laws.Means.{passes-for, replies-hold, replies-realizable, attacks-err, attacks-unrealizable}
+use Rattle.checker.proofs.laws.Pass.{RepliesPass, AttacksPass, pass-is}
+
+-- none of three
+none-of : (a b d : Bool) → (not a || not b || d) ≡ false → (a ≡ true) × (b ≡ true)
+none-of true true d e = (refl, refl)
+none-of true false d e = (refl, sym e)
+none-of false b d e = (sym e, cc)
+
+-- tables that pass have their lengths
+replies-long : (c : Circuit) (region table : List ℕ) → RepliesPass c region table → (length region ≡ regionLength (latchCount c)) × (length table ≡ replyLength (latchCount c) (uncontrollableCount c))
+unfolding badReplyTables
+replies-long c region table p =
+    let (one, two) = none-of (eqb (length region) (regionLength (latchCount c))) (eqb (length table) (replyLength (latchCount c) (uncontrollableCount c))) (unusedBitSet region (latchCount c)) (p .sized) in
+    (eqb-true _ _ one, eqb-true _ _ two)
+
+attacks-long : (c : Circuit) (table : List ℕ) → AttacksPass c table → length table ≡ attackLength (latchCount c)
+unfolding badAttackTable
+attacks-long c table p = eqb-true _ _ (not-false _ (p .sized))
+
+-- a part of a list is the front of what is behind its start
+part-front : (bytes table : List ℕ) (start end : ℕ) → table ≡ part start end bytes → end ≡ start + length table → table ≡ take (length table) (drop start bytes)
+part-front bytes table start end e f =
+    let long : end - start ≡ length table = omega arith in
+    e ∙ ap (λ (n : ℕ). take n (drop start bytes)) long
+
+-- replies that differ outside the set alone hold alike
+hold-inside : (g : Game) (set : ℕ → Bool) (given other : ℕ → ℕ → ℕ) → ((s r : ℕ) → set s ≡ true → other s r ≡ given s r) → (s : ℕ) (rs : List ℕ) → RepliesHold g set given s rs → RepliesHold g set other s rs
+hold-inside g set given other same s [] h = h
+hold-inside g set given other same s (r ∷ rs) (e, below, clear, rest) =
+    let on = hold-inside g set given other same ((g .step s r (given s r)) .next) rs rest in
+    subst (λ (k : ℕ). (set s ≡ true) × (k < g .controls) × ((g .step s r k) .error ≡ false) × RepliesHold g set other ((g .step s r k) .next) rs) (sym (same s r e)) (e, below, clear, on)
+
+-- equal tables have equal parts
+same-replies : (a b : List ℕ) (k : ℕ) (d a₂ b₂ : List ℕ) (k₂ : ℕ) (d₂ : List ℕ) → some (replies a b k d) ≡ some (replies a₂ b₂ k₂ d₂) → (b ≡ b₂) × (d ≡ d₂)
+same-replies a b k d a₂ b₂ k₂ d₂ e = (cc, cc)
+
+same-attacks : (a b a₂ b₂ : List ℕ) → some (attacks a b) ≡ some (attacks a₂ b₂) → b ≡ b₂
+same-attacks a b a₂ b₂ e = cc
+
+module _ (file certificate : List ℕ) (c : Circuit) (read : circuitIn file ≡ taken c) where
+  -- the tables that a check took, and its answer as their starts
+  pub record Took (starts : Starts) : Type 0 where
+    pub tables : Tables
+    pub checks : checkOf file certificate ≡ taken tables
+    pub starts-are : startsOf c tables ≡ starts
+
+  pub took : (starts : Starts) → answerOf file certificate ≡ taken starts → Took starts
+  unfolding answerOf
+  took starts e =
+      let (d, reads, e1) = bind-taken (circuitIn file) (λ d. checkOf file certificate >>= λ t. taken (startsOf d t)) starts e in
+      let (t, checks, e2) = bind-taken (checkOf file certificate) (λ t. taken (startsOf d t)) starts e1 in
+      let same : d ≡ c = cc in
+      let is : startsOf d t ≡ starts = cc in
+      record { tables = t; checks = checks; starts-are = ap (λ (b : Circuit). startsOf b t) (sym same) ∙ is }
+
+  -- and back: what the check took tells its answer
+  pub took-answers : (t : Tables) → checkOf file certificate ≡ taken t → answerOf file certificate ≡ taken (startsOf c t)
+  unfolding answerOf
+  took-answers t e = rw (read, e)
+
+  -- the certificate's circuit record is the file, byte by byte
+  carries-file : (starts : Starts) → answerOf file certificate ≡ taken starts → circuitRecord certificate ≡ file
+  unfolding circuitRecord circuitContents
+  carries-file starts e =
+      let t = took starts e in
+      let p = pass-is file certificate (t .tables) (t .checks) in
+      let (rest, first) = tables-begin acceptedKinds certificate (t .tables) (p .tables) in
+      ap circuitContents first ∙ p .same
+
+  -- the tables of a reply certificate that passes are the fronts of what is behind their starts
+  pub record RepliesTook (region table L U : ℕ) : Type 0 where
+    pub circuitBytes : List ℕ
+    pub regionBytes : List ℕ
+    pub kind : ℕ
+    pub tableBytes : List ℕ
+    pub checks : checkOf file certificate ≡ taken (replies circuitBytes regionBytes kind tableBytes)
+    pub latches : latchCount c ≡ L
+    pub readings : uncontrollableCount c ≡ U
+    pub region-front : regionBytes ≡ take (length regionBytes) (drop region certificate)
+    pub table-front : tableBytes ≡ take (length tableBytes) (drop table certificate)
+
+  pub replies-took : (region table L U : ℕ) → answerOf file certificate ≡ taken (ofReplies region table L U) → RepliesTook region table L U
+  unfolding startsOf shapeOf
+  replies-took region table L U e = let w = took (ofReplies region table L U) e in by (w .tables) (w .checks) (w .starts-are)
+    where
+      by : (t : Tables) → checkOf file certificate ≡ taken t → startsOf c t ≡ ofReplies region table L U → RepliesTook region table L U
+      by (attacks circuit bytes) f g = absurd (let z : _≡_ {A = ℕ} 0 1 = cc in omega arith)
+      by (replies circuit states kind bytes) f g =
+          let begins : headLength + length circuit + headLength ≡ region = cc in
+          let starts : headLength + length circuit + headLength + length states + headLength ≡ table = cc in
+          let p = pass-is file certificate (replies circuit states kind bytes) f in
+          let there = reply-parts acceptedKinds certificate _ _ _ _ _ (sym (ap shapeOf (p .tables))) in
+          let (states-are, bytes-are) = same-replies _ _ _ _ _ _ _ _ (sym (p .tables) ∙ there .tables) in
+          record {
+            circuitBytes = circuit;
+            regionBytes = states;
+            kind = kind;
+            tableBytes = bytes;
+            checks = f;
+            latches = cc;
+            readings = cc;
+            region-front = part-front certificate states _ _ states-are refl ∙ ap (λ (n : ℕ). take (length states) (drop n certificate)) begins;
+            table-front = part-front certificate bytes _ _ bytes-are refl ∙ ap (λ (n : ℕ). take (length bytes) (drop n certificate)) starts;
+          }
+
+  -- and so is that of an attack certificate
+  pub record AttacksTook (table L U : ℕ) : Type 0 where
+    pub circuitBytes : List ℕ
+    pub tableBytes : List ℕ
+    pub checks : checkOf file certificate ≡ taken (attacks circuitBytes tableBytes)
+    pub latches : latchCount c ≡ L
+    pub table-front : tableBytes ≡ take (length tableBytes) (drop table certificate)
+
+  pub attacks-took : (table L U : ℕ) → answerOf file certificate ≡ taken (ofAttacks table L U) → AttacksTook table L U
+  unfolding startsOf shapeOf
+  attacks-took table L U e = let w = took (ofAttacks table L U) e in by (w .tables) (w .checks) (w .starts-are)
+    where
+      by : (t : Tables) → checkOf file certificate ≡ taken t → startsOf c t ≡ ofAttacks table L U → AttacksTook table L U
+      by (replies circuit states kind bytes) f g = absurd (let z : _≡_ {A = ℕ} 0 1 = cc in omega arith)
+      by (attacks circuit bytes) f g =
+          let starts : headLength + length circuit + headLength ≡ table = cc in
+          let p = pass-is file certificate (attacks circuit bytes) f in
+          let there = attack-parts acceptedKinds certificate _ _ _ (sym (ap shapeOf (p .tables))) in
+          let bytes-are = same-attacks _ _ _ _ (sym (p .tables) ∙ there .tables) in
+          record {
+            circuitBytes = circuit;
+            tableBytes = bytes;
+            checks = f;
+            latches = cc;
+            table-front = part-front certificate bytes _ _ bytes-are refl ∙ ap (λ (n : ℕ). take (length bytes) (drop n certificate)) starts;
+          }
+
+  module _ (region table L U : ℕ) (pass : answerOf file certificate ≡ taken (ofReplies region table L U)) where
+    abbrev judged : RepliesTook region table L U
+    judged = replies-took region table L U pass
+
+    long : (length (judged .regionBytes) ≡ regionLength (latchCount c)) × (length (judged .tableBytes) ≡ replyLength (latchCount c) (uncontrollableCount c))
+    long = replies-long c (judged .regionBytes) (judged .tableBytes) (passes-for file certificate (replies (judged .circuitBytes) (judged .regionBytes) (judged .kind) (judged .tableBytes)) c (judged .checks) read)
+
+    -- the region's bits and the replies are those of the records
+    pub bits-are : (s : ℕ) → holdsState (judged .regionBytes) (latchCount c) s ≡ holdsState (drop region certificate) L s
+    bits-are s = ap₂ (λ (l : List ℕ) (n : ℕ). holdsState l n s) (judged .region-front) (judged .latches) ∙ region-in-front (drop region certificate) (length (judged .regionBytes)) L s (long .0 ∙ ap regionLength (judged .latches))
+
+    pub replies-are : (s r : ℕ) → storedReply (judged .tableBytes) (latchCount c) (uncontrollableCount c) s r ≡ storedReply (drop table certificate) L U s r
+    replies-are s r =
+        (λ i. storedReply (judged .table-front i) (judged .latches i) (judged .readings i) s r)
+        ∙ replies-in-front (drop table certificate) (length (judged .tableBytes)) L s U r (long .1 ∙ ap₂ replyLength (judged .latches) (judged .readings))
+
+    -- for every finite run of readings a reply is read, the error is 0 and the state stays in the region that is read
+    pub replies-hold-as-read : (rs : List ℕ) → AllBelow (2 ^ U) rs → RepliesHold (circuitGame c) (holdsState (drop region certificate) L) (replyIn (drop region certificate) (drop table certificate) L U) 0 rs
+    replies-hold-as-read rs h =
+        let stored = replies-hold file certificate c read (judged .circuitBytes) (judged .regionBytes) (judged .kind) (judged .tableBytes) (judged .checks) rs (subst (λ (n : ℕ). AllBelow (2 ^ n) rs) (sym (judged .readings)) h) in
+        let set : _≡_ {A = ℕ → Bool} (holdsState (judged .regionBytes) (latchCount c)) (holdsState (drop region certificate) L) = λ i s. bits-are s i in
+        let answers : _≡_ {A = ℕ → ℕ → ℕ} (storedReply (judged .tableBytes) (latchCount c) (uncontrollableCount c)) (storedReply (drop table certificate) L U) = λ i s r. replies-are s r i in
+        hold-inside (circuitGame c) (holdsState (drop region certificate) L) (storedReply (drop table certificate) L U) (replyIn (drop region certificate) (drop table certificate) L U)
+        (λ s r e. reply-inside (drop region certificate) (drop table certificate) L U s r e) 0 rs
+        (subst₂ (λ (f : ℕ → Bool) (g : ℕ → ℕ → ℕ). RepliesHold (circuitGame c) f g 0 rs) set answers stored)
+
+    pub replies-realizable-as-read : isRealizable c ≡ true
+    replies-realizable-as-read = replies-realizable file certificate c read (judged .circuitBytes) (judged .regionBytes) (judged .kind) (judged .tableBytes) (judged .checks)
+
+  module _ (table L U : ℕ) (pass : answerOf file certificate ≡ taken (ofAttacks table L U)) where
+    abbrev judgedAttacks : AttacksTook table L U
+    judgedAttacks = attacks-took table L U pass
+
+    wide : length (judgedAttacks .tableBytes) ≡ attackLength L
+    wide = attacks-long c (judgedAttacks .tableBytes) (passes-for file certificate (attacks (judgedAttacks .circuitBytes) (judgedAttacks .tableBytes)) c (judgedAttacks .checks) read) ∙ ap attackLength (judgedAttacks .latches)
+
+    -- the ranks and attacks are those of the record
+    pub ranks-are : (s : ℕ) → storedRank (judgedAttacks .tableBytes) (latchCount c) s ≡ storedRank (drop table certificate) L s
+    ranks-are s = ap₂ (λ (l : List ℕ) (n : ℕ). storedRank l n s) (judgedAttacks .table-front) (judgedAttacks .latches) ∙ ranks-in-front (drop table certificate) (length (judgedAttacks .tableBytes)) L s wide
+
+    pub attacks-are : (s : ℕ) → storedAttack (judgedAttacks .tableBytes) (latchCount c) s ≡ storedAttack (drop table certificate) L s
+    attacks-are s = ap₂ (λ (l : List ℕ) (n : ℕ). storedAttack l n s) (judgedAttacks .table-front) (judgedAttacks .latches) ∙ attacks-in-front (drop table certificate) (length (judgedAttacks .tableBytes)) L s wide
+
+    -- against every strategy of controls the error is 1 no later than the step given by the rank that is read of state 0
+    pub attacks-err-as-read : (σ : Strategy) → ((past : List Seen) (s r : ℕ) → σ past s r < 2 ^ controllableCount c) → ErrsWithin (circuitGame c) (storedAttack (drop table certificate) L) σ [] (storedRank (drop table certificate) L 0) 0
+    attacks-err-as-read σ legal =
+        let attacked : _≡_ {A = ℕ → ℕ} (storedAttack (judgedAttacks .tableBytes) (latchCount c)) (storedAttack (drop table certificate) L) = λ i s. attacks-are s i in
+        subst₂ (λ (f : ℕ → ℕ) (n : ℕ). ErrsWithin (circuitGame c) f σ [] n 0) attacked (ranks-are 0) (attacks-err file certificate c read (judgedAttacks .circuitBytes) (judgedAttacks .tableBytes) (judgedAttacks .checks) σ legal)
+
+    pub attacks-unrealizable-as-read : isRealizable c ≡ false
+    attacks-unrealizable-as-read = attacks-unrealizable file certificate c read (judgedAttacks .circuitBytes) (judgedAttacks .tableBytes) (judgedAttacks .checks)
+
+-- a certificate passes only for a file that is read
+pub passed-reads : (file certificate : List ℕ) (starts : Starts) → answerOf file certificate ≡ taken starts → (c : Circuit) × (circuitIn file ≡ taken c)
+unfolding answerOf
+passed-reads file certificate starts e =
+    let (c, reads, rest) = bind-taken (circuitIn file) (λ d. checkOf file certificate >>= λ t. taken (startsOf d t)) starts e in
+    (c, reads)
+
+pub carries-its-file : (file certificate : List ℕ) (starts : Starts) → answerOf file certificate ≡ taken starts → circuitRecord certificate ≡ file
+carries-its-file file certificate starts e = let (c, reads) = passed-reads file certificate starts e in carries-file file certificate c reads starts e
+
+-- no file has both kinds pass
+pub never-both-as-read : (file one other : List ℕ) (region table L U table₂ L₂ U₂ : ℕ) → answerOf file one ≡ taken (ofReplies region table L U) → answerOf file other ≡ taken (ofAttacks table₂ L₂ U₂) → ⊥
+never-both-as-read file one other region table L U table₂ L₂ U₂ e f =
+    let (c, reads) = passed-reads file one (ofReplies region table L U) e in
+    true≢false (sym (replies-realizable-as-read file one c reads region table L U e) ∙ attacks-unrealizable-as-read file other c reads table₂ L₂ U₂ f)

@@ -1,0 +1,6 @@
+pub mod Lane
+pub mod Control
+pub mod LaneNumber
+pub mod Putting
+pub mod Block
+pub mod Decided

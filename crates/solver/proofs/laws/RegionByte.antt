@@ -1,0 +1,64 @@
+-- A bit of the region by its two tests, the byte of eight such bits, and the bytes of a set of states. Assumes nothing.
+use Prim.Native.Nat.{ℕ, _+_, _*_, _/_, _^_, _<_, _≤_}
+use native.Mathlib.Decide.{decLt}
+use native.Mathlib.Nat.{add-zero}
+use native.Mathlib.Omega.{arith}
+use mathlib.Core.Bool.{Bool, not, _&&_}
+use mathlib.Core.List.{List}
+use mathlib.Core.Path.{_≡_, sym, ap, ap₂, _∙_}
+use lib.Dec.{ltb}
+use lib.ListN.{take}
+use borrow.Author.Tests.{lt-ltb, le-ltb}
+use Rattle.below.specs.Table.{table}
+use Rattle.below.proofs.laws.Table.{table-same}
+use Rattle.below.proofs.laws.Take.{take-table}
+use Rattle.bits.specs.Bit.{oneIf}
+use Rattle.bits.specs.Digits.{sum}
+use Rattle.circuit.specs.Limits.{base}
+use Rattle.game.specs.Game.{Game}
+use Rattle.game.specs.Rank.{inRegion}
+use Rattle.moves.specs.Played.{ranksIn}
+use Rattle.solver.specs.Over.{rankZero}
+use Rattle.solver.specs.RankTable.{rankTable}
+use Rattle.solver.specs.RegionTable.{regionByte, regionTable}
+use Rattle.solver.proofs.laws.RankTable.{rank-in-table}
+
+module _ (ranks : List ℕ) (states s x : ℕ) (is : x ≡ ranksIn ranks s) where
+  pub bit-inside : s < states → x ≡ 0 → 1 ≡ oneIf (ltb s states && rankZero ranks s)
+  unfolding rankZero oneIf
+  bit-inside h e = sym (ap₂ (λ (a b : Bool). oneIf (a && not b)) (lt-ltb s states h) (le-ltb 0 (ranksIn ranks s) (omega arith)))
+
+  pub bit-outside : s < states → (x ≡ 0 → ⊥) → 0 ≡ oneIf (ltb s states && rankZero ranks s)
+  unfolding rankZero oneIf
+  bit-outside h e = sym (ap₂ (λ (a b : Bool). oneIf (a && not b)) (lt-ltb s states h) (lt-ltb 0 (ranksIn ranks s) (omega arith)))
+
+pub bit-past : (ranks : List ℕ) (states s : ℕ) → states ≤ s → 0 ≡ oneIf (ltb s states && rankZero ranks s)
+unfolding oneIf
+bit-past ranks states s h = sym (ap (λ (a : Bool). oneIf (a && rankZero ranks s)) (le-ltb s states h))
+
+module _ (set : ℕ → Bool) (states j : ℕ) where
+  pub byte-of : (b0 b1 b2 b3 b4 b5 b6 b7 : ℕ) → b0 ≡ oneIf (ltb (8 * j) states && set (8 * j)) → b1 ≡ oneIf (ltb (8 * j + 1) states && set (8 * j + 1)) → b2 ≡ oneIf (ltb (8 * j + 2) states && set (8 * j + 2)) → b3 ≡ oneIf (ltb (8 * j + 3) states && set (8 * j + 3)) → b4 ≡ oneIf (ltb (8 * j + 4) states && set (8 * j + 4)) → b5 ≡ oneIf (ltb (8 * j + 5) states && set (8 * j + 5)) → b6 ≡ oneIf (ltb (8 * j + 6) states && set (8 * j + 6)) → b7 ≡ oneIf (ltb (8 * j + 7) states && set (8 * j + 7)) → b0 + 2 * (b1 + 2 * (b2 + 2 * (b3 + 2 * (b4 + 2 * (b5 + 2 * (b6 + 2 * b7)))))) ≡ regionByte set states j
+  unfolding regionByte sum table
+  byte-of b0 b1 b2 b3 b4 b5 b6 b7 e0 e1 e2 e3 e4 e5 e6 e7 = omega (arith, ap (λ (s : ℕ). oneIf (ltb s states && set s)) (add-zero (8 * j)))
+
+-- the same set below the last state, the same bytes
+byte-same : (set other : ℕ → Bool) (states j : ℕ) → ((s : ℕ) → s < states → set s ≡ other s) → regionByte set states j ≡ regionByte other states j
+unfolding regionByte
+byte-same set other states j e = ap (sum 2) (table-same _ _ 8 (λ k h. ap oneIf (elim (decLt (8 * j + k) states) [ yes l ↦ ap (λ (b : Bool). ltb (8 * j + k) states && b) (e (8 * j + k) l) | no l ↦ none (8 * j + k) (omega arith) ])))
+  where
+    none : (s : ℕ) → states ≤ s → (ltb s states && set s) ≡ (ltb s states && other s)
+    none s l = rw (le-ltb s states l)
+
+pub region-same : (set other : ℕ → Bool) (states : ℕ) → ((s : ℕ) → s < states → set s ≡ other s) → regionTable set states ≡ regionTable other states
+unfolding regionTable
+region-same set other states e = table-same _ _ (2 ^ base .latches / 8) (λ j h. byte-same set other states j e)
+
+-- the first bytes of a region
+pub region-front : (set : ℕ → Bool) (states n : ℕ) → n ≤ 2 ^ base .latches / 8 → take n (regionTable set states) ≡ table (regionByte set states) n
+unfolding regionTable
+region-front set states n h = take-table (regionByte set states) (2 ^ base .latches / 8) n h
+
+-- the states of rank 0 are the region
+pub zero-in-region : (g : Game) → g .states ≤ 2 ^ base .latches → (ranks : List ℕ) → ranks ≡ rankTable g → regionTable (rankZero ranks) (g .states) ≡ regionTable (inRegion g) (g .states)
+unfolding rankZero inRegion
+zero-in-region g few ranks e = region-same (rankZero ranks) (inRegion g) (g .states) (λ s h. ap (λ (n : ℕ). not (ltb 0 n)) (ap (λ (l : List ℕ). ranksIn l s) e ∙ rank-in-table g few s h))

@@ -1,0 +1,69 @@
+-- `solver::rounds::ranked` meets its contract: a rank once given stays; another is given exactly if some reading defeats.
+use Rattle.circuit.specs.Stored.{lent}
+use Rattle.moves.specs.Played.{played, ranksIn}
+use Rattle.solver.proofs.laws.RankTable.{rank-kept, rank-given, rank-none}
+use borrow.Author.Needs.{needs}
+use Rattle.solver.proofs.rounds.ranked.Statement.{statement}
+use Rattle.solver.proofs.rounds.ranked.Tie as tie
+
+rank-at-requires : tie.Need-rank-at-requires
+rank-at-requires c κs = search needs
+
+returns : tie.Need-returns
+returns c = let x = c .before in
+    let s = x .before .before .before .before .before .before .before .before .before .before .before in
+    let a = s .args in
+    (rank-kept (played (a .readings) (a .controls) (lent 0 (a .input .now) (a .controllable .now) (a .latch .now) (a .next .now) (a .output) (a .gate .now) (a .left .now) (a .right .now))) (a .k) (ranksIn (a .ranks .now)) (a .state) (x .rank-at .result) (x .rank-at .ensures) (c .if1 .taken), s .pre .1 .1)
+
+least-defeat-requires : tie.Need-least-defeat-requires
+least-defeat-requires c κs = search needs
+
+fewer-requires : tie.Need-fewer-requires
+fewer-requires c κs = search needs
+
+add-result : tie.Need-add-result
+add-result c = search needs
+
+same-length : tie.Need-same-length
+same-length c = search needs
+
+same-length-2 : tie.Need-same-length-2
+same-length-2 c = search needs
+
+returns-2 : tie.Need-returns-2
+unfolding played
+returns-2 c = let n = c .before in
+    let r = c .before .before .before .before .before .before in
+    let x = c .before .before .before .before .before .before .before .before .before .before in
+    let a = x .before .before .before .before .before .before .before .before .before .before .before .args in
+    (rank-given (played (a .readings) (a .controls) (lent 0 (a .input .now) (a .controllable .now) (a .latch .now) (a .next .now) (a .output) (a .gate .now) (a .left .now) (a .right .now))) (a .k) (ranksIn (a .ranks .now)) (a .state) (x .rank-at .result) (x .rank-at .ensures) (r .least-defeat .result) (n .fewer .result) (c .before .before .before .before .before .before .before .before .before .if1 .left) (r .least-defeat .ensures .0) (n .fewer .ensures) (c .if2 .taken), r .least-defeat .ensures .1)
+
+same-length-3 : tie.Need-same-length-3
+same-length-3 c = search needs
+
+same-length-4 : tie.Need-same-length-4
+same-length-4 c = search needs
+
+returns-3 : tie.Need-returns-3
+unfolding played
+returns-3 c = let n = c .before in
+    let r = c .before .before .before .before .before .before in
+    let x = c .before .before .before .before .before .before .before .before .before .before in
+    let a = x .before .before .before .before .before .before .before .before .before .before .before .args in
+    (rank-none (played (a .readings) (a .controls) (lent 0 (a .input .now) (a .controllable .now) (a .latch .now) (a .next .now) (a .output) (a .gate .now) (a .left .now) (a .right .now))) (a .k) (ranksIn (a .ranks .now)) (a .state) (x .rank-at .result) (x .rank-at .ensures) (r .least-defeat .result) (n .fewer .result) (c .before .before .before .before .before .before .before .before .before .if1 .left) (r .least-defeat .ensures .0) (n .fewer .ensures) (c .if2 .left), r .least-defeat .ensures .1)
+
+pub ranked-spec : {M : Type 1} → statement M
+ranked-spec =
+    tie.close
+    (tie.spec
+    rank-at-requires
+    returns
+    least-defeat-requires
+    fewer-requires
+    add-result
+    same-length
+    same-length-2
+    returns-2
+    same-length-3
+    same-length-4
+    returns-3)

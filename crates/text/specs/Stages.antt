@@ -1,0 +1,36 @@
+-- The stages behind the header (01, "The file", rule 2; "The numbers", the order): inputs, latches, output and gates, each with its rule, its
+-- count of lines and the place of its first; then the late 7; then the symbols. Assumes nothing.
+use Prim.Native.Nat.{ℕ, _+_}
+use mathlib.Core.List.{List, [], _++_, map}
+use lib.ListN.{getD}
+use Rattle.circuit.specs.Outcome.{Outcome}
+use Rattle.text.specs.Header.{Header}
+use Rattle.text.specs.Rules.{inputRule, latchRule, outputRule, gateRule}
+use Rattle.text.specs.Section.{Body, section, onward, used}
+use Rattle.text.specs.Symbol.{Symbols, symbolLines}
+
+-- nothing is read yet of these lines
+abbrev pub unread : List (List ℕ) → Body
+unread rest = record { rows = []; defined = []; rest = rest }
+
+abbrev pub inputSection : Header → List (List ℕ) → Outcome Body
+inputSection h rest = section (inputRule (h .largest)) (h .inputs) 2 (unread rest)
+
+abbrev pub latchSection : Header → Body → Outcome Body
+latchSection h inputs = section (latchRule (h .largest)) (h .latches) (2 + h .inputs) (onward inputs)
+
+abbrev pub outputSection : Header → Body → Outcome Body
+outputSection h latches = section (outputRule (h .largest)) 1 (2 + h .inputs + h .latches) (onward latches)
+
+abbrev pub gateSection : Header → Body → Outcome Body
+gateSection h output = section (gateRule (h .largest)) (h .gates) (3 + h .inputs + h .latches) (onward output)
+
+-- the literals of next states and output
+abbrev pub lateOf : (latches output : Body) → List ℕ
+lateOf latches output = map (λ fs. getD fs 1 0) (latches .rows) ++ map (λ fs. getD fs 0 0) (output .rows)
+
+abbrev pub lateStage : Header → (latches output gates : Body) → Outcome (Unit {0})
+lateStage h latches output gates = used (gates .defined) (2 + h .inputs) (lateOf latches output)
+
+abbrev pub symbolStage : Header → Body → Outcome Symbols
+symbolStage h gates = symbolLines h (3 + h .inputs + h .latches + h .gates) [] (gates .rest)
