@@ -27,7 +27,7 @@ def cases():
     for name in ("missing", "folder", "n" * 300):
         yield "verify", ["P.aag", name], f"{name}: "
     yield "verify", ["P.aag", "long"], f"long: longer than {CERTIFICATE} bytes"
-    for name in ("missing/certificate", "P.aag/certificate", "folder", "n" * 250, "n" * 4090):
+    for name in ("missing/certificate", "P.aag/certificate", "folder", "n" * 255, "n" * 4090):
         yield "certify", ["P.aag", name], name
     yield "answers", ["missing"], "missing: "
     yield "answers", ["folder"], "folder: "
