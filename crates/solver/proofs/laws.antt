@@ -5,3 +5,5 @@ pub mod Over
 pub mod Solved
 pub mod States
 pub mod Solution
+pub mod Attacks
+pub mod Replies

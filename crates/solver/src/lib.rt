@@ -4,9 +4,11 @@ pub mod region;
 mod rounds;
 
 use circuit::Circuit;
+use kept::no_replies;
+use rounds::no_attacks;
 use rounds::rounds;
 use rounds::zeros;
-ghost use Prim.Native.Nat.{_^_, _<_, _≤_};
+ghost use Prim.Native.Nat.{_*_, _^_, _<_, _≤_};
 ghost use mathlib.Core.Bool.{not};
 ghost use mathlib.Core.Path.{_≡_};
 ghost use lib.Dec.{eqb};
@@ -20,10 +22,18 @@ ghost use Rattle.game.specs.CircuitGame.{circuitGame, isRealizable};
 ghost use Rattle.game.specs.Rank.{round as roundOf};
 ghost use Rattle.moves.specs.Played.{played, ranksIn};
 ghost use Rattle.solver.specs.Over.{found as foundOf, replyOver, attackOver};
-ghost use Rattle.solver.specs.RankTable.{rankTable, roundTable};
+ghost use Rattle.solver.specs.RankTable.{rankTable};
+ghost use Rattle.solver.specs.Solution.{solutionOf};
 
 // Above every rank: a state of rank 1 to this one is a state of any rank but 0.
 const ANY: u16 = 65535;
+
+// What the solver answers: ranks and attacks of the states, and replies, at index s × 2^U + reading; 0 behind the last.
+pub struct Solution {
+    pub ranks: [u16; Circuit::STATES],
+    pub replies: [u8; Circuit::REPLIES],
+    pub attacks: [u8; Circuit::STATES],
+}
 
 // The ranks of a circuit's states; 0 behind the last state.
 pub fn ranks(c: Circuit) -> [u16; Circuit::STATES]
@@ -65,13 +75,30 @@ pub fn ranks_lent<'a>(
 ) -> [u16; Circuit::STATES]
     ensures { λ r. ⌜ r ≡ rankTable (circuitGame (solvable (lent 0 (now (input .entry)) (now (controllable .entry)) (now (latch .entry)) (now (next .entry)) output (now (gate .entry)) (now (left .entry)) (now (right .entry))))) ⌝ }
 {
+    let solved = solve_lent(input, controllable, latch, next, output, gate, left, right);
+    solved.ranks
+}
+
+// Ranks, replies and attacks of a circuit over lent arrays. A circuit with too many inputs counts as the empty one.
+pub fn solve_lent<'a>(
+    input: &'a [u16],
+    controllable: &'a [u8],
+    latch: &'a [u16],
+    next: &'a [u16],
+    output: u16,
+    gate: &'a [u16],
+    left: &'a [u16],
+    right: &'a [u16],
+) -> Solution
+    ensures { λ r. ⌜ r ≡ solutionOf (circuitGame (solvable (lent 0 (now (input .entry)) (now (controllable .entry)) (now (latch .entry)) (now (next .entry)) output (now (gate .entry)) (now (left .entry)) (now (right .entry))))) ⌝ }
+{
     let c = circuit::counts::controllable_count(input, controllable);
     let u = input.len() - c;
     if Circuit::UNCONTROLLABLE < u {
-        return zeros();
+        return nothing();
     }
     if Circuit::CONTROLLABLE < c {
-        return zeros();
+        return nothing();
     }
     let l = below::fewer(latch.len(), Circuit::LATCHES);
     rounds(
@@ -87,6 +114,20 @@ pub fn ranks_lent<'a>(
         numbers(c),
         numbers(l),
     )
+}
+
+// The solution of the empty circuit: every number is 0.
+fn nothing() -> Solution
+    ensures { λ r. ⌜ r ≡ record { ranks = table (λ s. 0) (2 ^ base .latches); replies = table (λ i. 0) (2 ^ base .latches * 2 ^ base .uncontrollable); attacks = table (λ s. 0) (2 ^ base .latches) } ⌝ }
+{
+    let ranks = zeros();
+    let replies = no_replies();
+    let attacks = no_attacks();
+    Solution {
+        ranks,
+        replies,
+        attacks,
+    }
 }
 
 // The least control that keeps in the set of the states of rank 0; 0 outside it, or where there is none.

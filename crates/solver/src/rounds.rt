@@ -1,12 +1,15 @@
 // The rounds of the solver (01, "The game"): each is worked out from the ranks of the one before, kept whole.
+use crate::Solution;
 use crate::kept::least_defeat;
 use crate::kept::none_kept;
 use crate::kept::nowhere;
+use crate::kept::replies_kept;
 use circuit::Circuit;
-ghost use Prim.Native.Nat.{_^_, _<_, _≤_};
+ghost use Prim.Native.Nat.{ℕ, _^_, _<_, _≤_};
 ghost use mathlib.Core.Bool.{not};
 ghost use mathlib.Core.Path.{_≡_};
 ghost use lib.Dec.{eqb};
+ghost use lib.ListN.{length};
 ghost use Rattle.below.specs.Least.{any};
 ghost use Rattle.below.specs.Table.{table};
 ghost use Rattle.circuit.specs.Circuit.{latchCount};
@@ -15,7 +18,10 @@ ghost use Rattle.circuit.specs.Stored.{lent};
 ghost use Rattle.game.specs.Rank.{round as roundOf};
 ghost use Rattle.moves.specs.Played.{played, ranksIn};
 ghost use Rattle.solver.specs.AllKept.{AllKept};
+ghost use Rattle.solver.specs.Fair.{Fair};
+ghost use Rattle.solver.specs.AttacksAfter.{attackAfter, attacksAfter};
 ghost use Rattle.solver.specs.RankTable.{rankTable, roundTable};
+ghost use Rattle.solver.specs.Solution.{attackTable, solutionOf};
 
 // Rounds until one changes nothing: then none after it does.
 pub(crate) fn rounds<'a>(
@@ -30,13 +36,15 @@ pub(crate) fn rounds<'a>(
     readings: usize,
     controls: usize,
     states: usize,
-) -> [u16; Circuit::STATES]
+) -> Solution
+    requires { ⌜ 0 < readings ⌝ }
     requires { ⌜ 0 < controls ⌝ }
     requires { ⌜ states ≡ 2 ^ latchCount (lent 0 (now input) (now controllable) (now latch) (now next) output (now gate) (now left) (now right)) ⌝ }
-    ensures { λ r. ⌜ r ≡ rankTable (played readings controls (lent 0 (now (input .entry)) (now (controllable .entry)) (now (latch .entry)) (now (next .entry)) output (now (gate .entry)) (now (left .entry)) (now (right .entry)))) ⌝ }
+    ensures { λ r. ⌜ r ≡ solutionOf (played readings controls (lent 0 (now (input .entry)) (now (controllable .entry)) (now (latch .entry)) (now (next .entry)) output (now (gate .entry)) (now (left .entry)) (now (right .entry)))) ⌝ }
 {
     let mut kept = none_kept();
     let mut led = nowhere();
+    let mut attacks = no_attacks();
     let mut ranks = zeros();
     let mut k = 0;
     while k < states {
@@ -54,17 +62,103 @@ pub(crate) fn rounds<'a>(
             states,
             ranks,
             k as u16,
+            &mut attacks,
             &mut kept,
             &mut led,
         );
         let changed = changes(&ranks, &after, states);
         if !changed {
-            return ranks;
+            return solved(
+                input,
+                controllable,
+                latch,
+                next,
+                output,
+                gate,
+                left,
+                right,
+                readings,
+                controls,
+                states,
+                ranks,
+                attacks,
+                k as u16,
+                &kept,
+                &led,
+            );
         }
         ranks = after;
         k += 1;
     }
-    ranks
+    solved(
+        input,
+        controllable,
+        latch,
+        next,
+        output,
+        gate,
+        left,
+        right,
+        readings,
+        controls,
+        states,
+        ranks,
+        attacks,
+        k as u16,
+        &kept,
+        &led,
+    )
+}
+
+// The solution, where ranks and attacks are the game's: the controls kept are the replies.
+fn solved<'a>(
+    input: &'a [u16],
+    controllable: &'a [u8],
+    latch: &'a [u16],
+    next: &'a [u16],
+    output: u16,
+    gate: &'a [u16],
+    left: &'a [u16],
+    right: &'a [u16],
+    readings: usize,
+    controls: usize,
+    states: usize,
+    ranks: [u16; Circuit::STATES],
+    attacks: [u8; Circuit::STATES],
+    k: u16,
+    kept: &'a [u16],
+    led: &'a [u16],
+) -> Solution
+    requires { ⌜ 0 < readings ⌝ }
+    requires { ⌜ Fair (played readings controls (lent 0 (now input) (now controllable) (now latch) (now next) output (now gate) (now left) (now right))) states ⌝ }
+    requires { ⌜ ranks ≡ rankTable (played readings controls (lent 0 (now input) (now controllable) (now latch) (now next) output (now gate) (now left) (now right))) ⌝ }
+    requires { ⌜ attacks ≡ attackTable (played readings controls (lent 0 (now input) (now controllable) (now latch) (now next) output (now gate) (now left) (now right))) ⌝ }
+    requires { ⌜ ((t : ℕ) → ranksIn ranks t ≤ k) ⌝ }
+    requires { ⌜ AllKept (played readings controls (lent 0 (now input) (now controllable) (now latch) (now next) output (now gate) (now left) (now right))) (ranksIn ranks) k (now kept) (now led) ⌝ }
+    ensures { λ r. ⌜ r ≡ solutionOf (played readings controls (lent 0 (now (input .entry)) (now (controllable .entry)) (now (latch .entry)) (now (next .entry)) output (now (gate .entry)) (now (left .entry)) (now (right .entry)))) ⌝ }
+{
+    let replies = replies_kept(
+        input,
+        controllable,
+        latch,
+        next,
+        output,
+        gate,
+        left,
+        right,
+        readings,
+        controls,
+        states,
+        &ranks,
+        k,
+        kept,
+        led,
+    );
+    Solution {
+        ranks,
+        replies,
+        attacks,
+    }
 }
 
 pub(crate) fn zeros() -> [u16; Circuit::STATES]
@@ -73,7 +167,13 @@ pub(crate) fn zeros() -> [u16; Circuit::STATES]
     [0u16; Circuit::STATES]
 }
 
-// A round from the ranks of the one before; what is kept goes on.
+pub(crate) fn no_attacks() -> [u8; Circuit::STATES]
+    ensures { λ r. ⌜ r ≡ table (λ s. 0) (2 ^ base .latches) ⌝ }
+{
+    [0u8; Circuit::STATES]
+}
+
+// A round from the ranks of the one before; what is kept goes on, and a state that gets a rank gets its attack.
 fn round<'a>(
     input: &'a [u16],
     controllable: &'a [u8],
@@ -88,18 +188,20 @@ fn round<'a>(
     states: usize,
     ranks: [u16; Circuit::STATES],
     k: u16,
+    attacks: &mut [u8],
     kept: &mut [u16],
     led: &mut [u16],
 ) -> [u16; Circuit::STATES]
     requires { ⌜ k ≤ 2 ^ base .latches ⌝ }
     requires { ⌜ states ≤ (played readings controls (lent 0 (now input) (now controllable) (now latch) (now next) output (now gate) (now left) (now right))) .states ⌝ }
+    requires { ⌜ length (now attacks) ≡ 2 ^ base .latches ⌝ }
     requires { ⌜ AllKept (played readings controls (lent 0 (now input) (now controllable) (now latch) (now next) output (now gate) (now left) (now right))) (ranksIn ranks) k (now kept) (now led) ⌝ }
-    ensures { λ r. ⌜ (r ≡ roundTable (played readings controls (lent 0 (now (input .entry)) (now (controllable .entry)) (now (latch .entry)) (now (next .entry)) output (now (gate .entry)) (now (left .entry)) (now (right .entry)))) states k ranks) × AllKept (played readings controls (lent 0 (now (input .entry)) (now (controllable .entry)) (now (latch .entry)) (now (next .entry)) output (now (gate .entry)) (now (left .entry)) (now (right .entry)))) (ranksIn ranks) k (now (kept .exit)) (now (led .exit)) ⌝ }
+    ensures { λ r. ⌜ (r ≡ roundTable (played readings controls (lent 0 (now (input .entry)) (now (controllable .entry)) (now (latch .entry)) (now (next .entry)) output (now (gate .entry)) (now (left .entry)) (now (right .entry)))) states k ranks) × (now (attacks .exit) ≡ attacksAfter (played readings controls (lent 0 (now (input .entry)) (now (controllable .entry)) (now (latch .entry)) (now (next .entry)) output (now (gate .entry)) (now (left .entry)) (now (right .entry)))) states k ranks (now (attacks .entry))) × AllKept (played readings controls (lent 0 (now (input .entry)) (now (controllable .entry)) (now (latch .entry)) (now (next .entry)) output (now (gate .entry)) (now (left .entry)) (now (right .entry)))) (ranksIn ranks) k (now (kept .exit)) (now (led .exit)) ⌝ }
 {
     let mut after = ranks;
     let mut s = 0;
     while s < states {
-        let x = ranked(
+        let given = ranked(
             input,
             controllable,
             latch,
@@ -113,16 +215,24 @@ fn round<'a>(
             &ranks,
             k,
             s as u16,
+            attacks[s],
             kept,
             led,
         );
-        after[s] = x;
+        after[s] = given.rank;
+        attacks[s] = given.attack;
         s += 1;
     }
     after
 }
 
-// The rank of a state after round k + 1.
+// What a state has after a round: its rank, and its attack where it has one.
+struct Given {
+    rank: u16,
+    attack: u8,
+}
+
+// The rank and the attack of a state after round k + 1.
 fn ranked<'a>(
     input: &'a [u16],
     controllable: &'a [u8],
@@ -137,17 +247,18 @@ fn ranked<'a>(
     ranks: &'a [u16],
     k: u16,
     state: u16,
+    attack: u8,
     kept: &mut [u16],
     led: &mut [u16],
-) -> u16
+) -> Given
     requires { ⌜ k ≤ 2 ^ base .latches ⌝ }
     requires { ⌜ state < (played readings controls (lent 0 (now input) (now controllable) (now latch) (now next) output (now gate) (now left) (now right))) .states ⌝ }
     requires { ⌜ AllKept (played readings controls (lent 0 (now input) (now controllable) (now latch) (now next) output (now gate) (now left) (now right))) (ranksIn (now ranks)) k (now kept) (now led) ⌝ }
-    ensures { λ r. ⌜ (r ≡ roundOf (played readings controls (lent 0 (now (input .entry)) (now (controllable .entry)) (now (latch .entry)) (now (next .entry)) output (now (gate .entry)) (now (left .entry)) (now (right .entry)))) k (ranksIn (now (ranks .entry))) state) × AllKept (played readings controls (lent 0 (now (input .entry)) (now (controllable .entry)) (now (latch .entry)) (now (next .entry)) output (now (gate .entry)) (now (left .entry)) (now (right .entry)))) (ranksIn (now (ranks .entry))) k (now (kept .exit)) (now (led .exit)) ⌝ }
+    ensures { λ r. ⌜ (r .rank ≡ roundOf (played readings controls (lent 0 (now (input .entry)) (now (controllable .entry)) (now (latch .entry)) (now (next .entry)) output (now (gate .entry)) (now (left .entry)) (now (right .entry)))) k (ranksIn (now (ranks .entry))) state) × (r .attack ≡ attackAfter (played readings controls (lent 0 (now (input .entry)) (now (controllable .entry)) (now (latch .entry)) (now (next .entry)) output (now (gate .entry)) (now (left .entry)) (now (right .entry)))) k (now (ranks .entry)) attack state) × AllKept (played readings controls (lent 0 (now (input .entry)) (now (controllable .entry)) (now (latch .entry)) (now (next .entry)) output (now (gate .entry)) (now (left .entry)) (now (right .entry)))) (ranksIn (now (ranks .entry))) k (now (kept .exit)) (now (led .exit)) ⌝ }
 {
     let x = moves::rank_at(ranks, state as usize);
     if 0 < x {
-        return x;
+        return Given { rank: x, attack };
     }
     let r = least_defeat(
         input,
@@ -166,10 +277,14 @@ fn ranked<'a>(
         kept,
         led,
     );
-    if r < below::fewer(readings, Circuit::READINGS) {
-        k + 1
+    let n = below::fewer(readings, Circuit::READINGS);
+    if r < n {
+        Given {
+            rank: k + 1,
+            attack: r as u8,
+        }
     } else {
-        0
+        Given { rank: 0, attack: 0 }
     }
 }
 

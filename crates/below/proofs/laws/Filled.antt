@@ -6,13 +6,13 @@ use native.Mathlib.Decide.{decLt, ℕ-discrete}
 use native.Mathlib.Nat.{not-suc-le-zero}
 use mathlib.Core.Bool.{cond}
 use mathlib.Core.List.{List}
-use mathlib.Core.Path.{_≡_, refl, sym, _∙_}
+use mathlib.Core.Path.{_≡_, refl, sym, ap, _∙_}
 use lib.Dec.{ltb}
 use lib.ListN.{length, getD, set, length-set, replicate, length-replicate, getD-replicate}
 use lib.Seq.{getD-set-same, getD-set-other, ext-getD}
 use borrow.Author.Tests.{lt-ltb, le-ltb}
 use Rattle.below.specs.Table.{table}
-use Rattle.below.proofs.laws.Table.{length-table, getD-table}
+use Rattle.below.proofs.laws.Table.{length-table, getD-table, table-same}
 
 pub record Filled (f : ℕ → ℕ) (before : List ℕ) (i : ℕ) (after : List ℕ) : Type 0 where
   pub long : length after ≡ length before
@@ -48,3 +48,7 @@ replicate-table n a = ext-getD 0 (replicate n a) (table (λ s. a) n) (length-rep
 -- a list that is filled to its end
 pub filled-whole : (f : ℕ → ℕ) (before : List ℕ) (n i : ℕ) (after : List ℕ) → Filled f before i after → length before ≡ n → n ≤ i → after ≡ table f n
 filled-whole f before n i after filled long h = ext-getD 0 after (table f n) (filled .long ∙ long ∙ sym (length-table f n)) (λ j l. filled .front j (omega (arith, filled .long)) ∙ sym (getD-table f n j 0 (omega (arith, filled .long))))
+
+-- zeros that are filled from the front
+pub filled-zeros : (f : ℕ → ℕ) (before : List ℕ) (m n i : ℕ) (after : List ℕ) → Filled f before i after → before ≡ table (λ s. 0) m → i ≡ n → after ≡ table (λ s. cond (ltb s n) (f s) 0) m
+filled-zeros f before m n i after filled e q = filled-end f before n i after filled q ∙ ap (table (λ s. cond (ltb s n) (f s) (getD before s 0))) (ap length e ∙ length-table {A = ℕ} (λ s. 0) m) ∙ table-same _ _ m (λ s h. ap (λ (x : ℕ). cond (ltb s n) (f s) x) (ap (λ (l : List ℕ). getD l s 0) e ∙ getD-table {A = ℕ} (λ s. 0) m s 0 h))

@@ -18,8 +18,9 @@ use Rattle.circuit.specs.Limits.{base}
 use Rattle.game.specs.Game.{Game, Proper}
 use Rattle.game.specs.Rank.{notRanked, defeats, defeated, round, ranksAfter, rank}
 use Rattle.game.proofs.laws.Keeps.{answered-same, defeated-by}
-use Rattle.game.proofs.laws.Rounds.{defeated-same, Still, still-ranks}
+use Rattle.game.proofs.laws.Rounds.{defeated-same, Still, still-ranks, rank-most}
 use Rattle.moves.specs.Played.{ranksIn}
+use Rattle.solver.specs.Fair.{Fair}
 use Rattle.solver.specs.RankTable.{rankTable, roundTable}
 
 -- one and the same rank, one and the same set
@@ -71,11 +72,11 @@ unfolding tableAfter rankTable rank
 table-last g = refl
 
 module _ (g : Game) (few : g .states ≤ 2 ^ base .latches) where
-  in-table : (n s : ℕ) → s < g .states → ranksIn (tableAfter g n) s ≡ ranksAfter g n s
+  pub in-table : (n s : ℕ) → s < g .states → ranksIn (tableAfter g n) s ≡ ranksAfter g n s
   unfolding tableAfter ranksIn
   in-table n s h = getD-table (λ t. cond (ltb t (g .states)) (ranksAfter g n t) 0) (2 ^ base .latches) s 0 (omega arith) ∙ ap (λ (b : Bool). cond b (ranksAfter g n s) 0) (lt-ltb s (g .states) h)
 
-  behind-table : (n s : ℕ) → g .states ≤ s → ranksIn (tableAfter g n) s ≡ 0
+  pub behind-table : (n s : ℕ) → g .states ≤ s → ranksIn (tableAfter g n) s ≡ 0
   unfolding tableAfter ranksIn
   behind-table n s h = elim (decLt s (2 ^ base .latches)) [ yes l ↦ getD-table (λ t. cond (ltb t (g .states)) (ranksAfter g n t) 0) (2 ^ base .latches) s 0 l ∙ ap (λ (b : Bool). cond b (ranksAfter g n s) 0) (le-ltb s (g .states) h) | no l ↦ getD-table-past (λ t. cond (ltb t (g .states)) (ranksAfter g n t) 0) (2 ^ base .latches) s 0 (omega arith) ]
 
@@ -117,12 +118,6 @@ module _ (g : Game) (proper : Proper g) (few : g .states ≤ 2 ^ base .latches) 
       still : Still g k
       still = still-of g k (λ s h. sym (ap (λ (n : ℕ). ranksAfter g n s) (add-one k)) ∙ sym (in-table g few (k + 1) s h) ∙ sym (same s h) ∙ in-table g few k s h)
 
--- what the rounds of the code go by: a proper game of so many states, no more than a circuit may have
-pub record Fair (g : Game) (states : ℕ) : Type 0 where
-  pub proper : Proper g
-  pub few : g .states ≤ 2 ^ base .latches
-  pub all : states ≡ g .states
-
 -- the list after k rounds, of at most as many as there are states
 pub record Ranked (g : Game) (states k : ℕ) (ranks : List ℕ) : Type 0 where
   pub within : k ≤ states
@@ -151,3 +146,15 @@ module _ (g : Game) (states k : ℕ) (ranks after : List ℕ) (fair : Fair g sta
 
   pub rounds-end : states ≤ k → ranks ≡ rankTable g
   rounds-end h = ranked .is ∙ ap (tableAfter g) {x = k} {y = g .states} (omega (arith, ranked .within, fair .all)) ∙ table-last g
+
+-- where nothing changed each state has the same rank
+pub unchanged-same : (states : ℕ) (ranks after : List ℕ) (changed : Bool) → changed ≡ any (λ s. not (eqb (ranksIn ranks s) (ranksIn after s))) states → changed ≡ false → (s : ℕ) → s < states → ranksIn ranks s ≡ ranksIn after s
+unchanged-same states ranks after changed e f s h = eqb-true _ _ (not-false _ (any-none (λ t. not (eqb (ranksIn ranks t) (ranksIn after t))) states s (sym e ∙ f) h))
+
+-- no rank is above the number of rounds
+pub ranks-most : (g : Game) (states k : ℕ) (ranks : List ℕ) → Fair g states → Ranked g states k ranks → (t : ℕ) → ranksIn ranks t ≤ k
+ranks-most g states k ranks fair ranked t = elim (decLt t (g .states)) [ yes h ↦ omega (arith, ap (λ (l : List ℕ). ranksIn l t) (ranked .is) ∙ in-table g (fair .few) k t h, rank-most g k t) | no h ↦ omega (arith, ap (λ (l : List ℕ). ranksIn l t) (ranked .is) ∙ behind-table g (fair .few) k t (omega arith)) ]
+
+pub table-long : (g : Game) (ranks : List ℕ) → ranks ≡ rankTable g → length ranks ≡ 2 ^ base .latches
+unfolding rankTable
+table-long g ranks e = ap length e ∙ length-table _ (2 ^ base .latches)

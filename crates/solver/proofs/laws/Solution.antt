@@ -19,7 +19,7 @@ use Rattle.solver.proofs.laws.Over.{reply-over-is-reply, attack-over-is
 use Rattle.solver.proofs.laws.Solved.{small-solvable, played-solvable}
 
 -- a reply doesn't look at how many readings there are
-reply-any-readings : (readings other controls : ℕ) (c : Circuit) (ranks : List ℕ) (s r : ℕ) → replyOver (played readings controls c) ranks s r ≡ replyOver (played other controls c) ranks s r
+pub reply-any-readings : (readings other controls : ℕ) (c : Circuit) (ranks : List ℕ) (s r : ℕ) → replyOver (played readings controls c) ranks s r ≡ replyOver (played other controls c) ranks s r
 unfolding replyOver keeps played
 reply-any-readings readings other controls c ranks s r = refl
 

@@ -1,6 +1,6 @@
 -- The games that the solver plays: over lent lists a fair one, that of a circuit that isn't too large, and that of the empty circuit.
 -- Assumes nothing.
-use Prim.Native.Nat.{ℕ, zero, suc, _^_, min, _<_, _≤_}
+use Prim.Native.Nat.{ℕ, zero, suc, _*_, _/_, _%_, _^_, min, _<_, _≤_}
 use native.Mathlib.Omega.{arith}
 use native.Mathlib.Decide.{decLt}
 use mathlib.Core.Bool.{Bool, true, false, cond, not, _||_, true≢false}
@@ -22,17 +22,22 @@ use Rattle.circuit.specs.Literal.{variable, inverted, constant}
 use Rattle.circuit.specs.Reset.{isReset}
 use Rattle.circuit.specs.Stored.{lent, solvable, emptyCircuit}
 use Rattle.circuit.proofs.laws.Counts.{lent-latches}
+use Rattle.game.specs.Attack.{attack}
 use Rattle.game.specs.CircuitGame.{circuitGame, isRealizable}
 use Rattle.game.specs.Game.{Proper}
 use Rattle.game.specs.Keeps.{keeps, answered, safe}
 use Rattle.game.specs.Rank.{notRanked, defeated, round, ranksAfter, rank, inRegion}
+use Rattle.game.specs.Reply.{reply}
 use Rattle.game.specs.Verdict.{realizable}
 use Rattle.moves.specs.Played.{played, ranksIn}
 use Rattle.step.specs.Step.{step, errorOf, nextOf}
 use Rattle.step.specs.Value.{literalValue, put, withInputs, withLatches, withGates, valuation}
 use Rattle.step.proofs.laws.Step.{next-below, largest-not-read}
 use Rattle.solver.specs.RankTable.{rankTable}
-use Rattle.solver.proofs.laws.RankTable.{Fair, rank-in-table}
+use Rattle.solver.specs.Solution.{replyTable, attackTable, solutionOf}
+use Rattle.solver.specs.declared.Solution.{Solution}
+use Rattle.solver.specs.Fair.{Fair}
+use Rattle.solver.proofs.laws.RankTable.{rank-in-table}
 
 empty-states : (circuitGame emptyCircuit) .states ≡ 1
 unfolding circuitGame latchCount emptyCircuit
@@ -56,6 +61,50 @@ empty-ranks = table-same _ _ (2 ^ base .latches) (λ s h. at s)
 
     at : (s : ℕ) → _≡_ {A = ℕ} 0 (cond (ltb s ((circuitGame emptyCircuit) .states)) (rank (circuitGame emptyCircuit) s) 0)
     at s = elim (decLt s 1) [ yes h ↦ rw (lt-ltb s ((circuitGame emptyCircuit) .states) (omega (arith, empty-states))) (zero-rank s (omega arith)) | no h ↦ rw (le-ltb s ((circuitGame emptyCircuit) .states) (omega (arith, empty-states))) ]
+
+-- its only reply and its only attack are 0
+empty-reply : reply (circuitGame emptyCircuit) 0 0 ≡ 0
+unfolding reply inRegion rank ranksAfter round defeated safe every any least answered keeps notRanked circuitGame emptyCircuit latchCount uncontrollableCount controllableCount inputsThat step errorOf nextOf valuation withInputs withLatches withGates put literalValue constant inverted variable odd sum oneIf
+empty-reply = refl
+
+empty-attack : attack (circuitGame emptyCircuit) 0 ≡ 0
+unfolding attack inRegion rank ranksAfter round defeated safe every any least answered keeps notRanked circuitGame emptyCircuit latchCount uncontrollableCount controllableCount inputsThat step errorOf nextOf valuation withInputs withLatches withGates put literalValue constant inverted variable odd sum oneIf
+empty-attack = refl
+
+empty-readings : (circuitGame emptyCircuit) .readings ≡ 1
+unfolding circuitGame uncontrollableCount inputsThat emptyCircuit
+empty-readings = refl
+
+empty-replies : table (λ i. 0) (2 ^ base .latches * 2 ^ base .uncontrollable) ≡ replyTable (circuitGame emptyCircuit)
+unfolding replyTable
+empty-replies = table-same _ _ (2 ^ base .latches * 2 ^ base .uncontrollable) (λ i h. at i)
+  where
+    first : (i : ℕ) → i ≡ 0 → _≡_ {A = ℕ} 0 (reply (circuitGame emptyCircuit) (i / 1) (i % 1))
+    first i e = rw e (sym empty-reply)
+
+    one : (i : ℕ) → _≡_ {A = ℕ} 0 (cond (ltb i (1 * 1)) (reply (circuitGame emptyCircuit) (i / 1) (i % 1)) 0)
+    one i = elim (decLt i 1) [ yes h ↦ rw (lt-ltb i 1 h) (first i (omega arith)) | no h ↦ rw (le-ltb i 1 (omega arith)) ]
+
+    at : (i : ℕ) → _≡_ {A = ℕ} 0 (cond (ltb i ((circuitGame emptyCircuit) .states * (circuitGame emptyCircuit) .readings)) (reply (circuitGame emptyCircuit) (i / (circuitGame emptyCircuit) .readings) (i % (circuitGame emptyCircuit) .readings)) 0)
+    at i = one i ∙ sym (λ x. cond (ltb i (empty-states x * empty-readings x)) (reply (circuitGame emptyCircuit) (i / empty-readings x) (i % empty-readings x)) 0)
+
+empty-attacks : table (λ s. 0) (2 ^ base .latches) ≡ attackTable (circuitGame emptyCircuit)
+unfolding attackTable
+empty-attacks = table-same _ _ (2 ^ base .latches) (λ s h. at s)
+  where
+    first : (s : ℕ) → s ≡ 0 → _≡_ {A = ℕ} 0 (attack (circuitGame emptyCircuit) s)
+    first s e = rw e (sym empty-attack)
+
+    at : (s : ℕ) → _≡_ {A = ℕ} 0 (cond (ltb s ((circuitGame emptyCircuit) .states)) (attack (circuitGame emptyCircuit) s) 0)
+    at s = elim (decLt s 1) [ yes h ↦ rw (lt-ltb s ((circuitGame emptyCircuit) .states) (omega (arith, empty-states))) (first s (omega arith)) | no h ↦ rw (le-ltb s ((circuitGame emptyCircuit) .states) (omega (arith, empty-states))) ]
+
+-- every number of its solution is 0
+abbrev pub zeroSolution : Solution
+zeroSolution = record { ranks = table (λ s. 0) (2 ^ base .latches); replies = table (λ i. 0) (2 ^ base .latches * 2 ^ base .uncontrollable); attacks = table (λ s. 0) (2 ^ base .latches) }
+
+empty-solution : zeroSolution ≡ solutionOf (circuitGame emptyCircuit)
+unfolding solutionOf
+empty-solution = λ x. record { ranks = empty-ranks x; replies = empty-replies x; attacks = empty-attacks x }
 
 whole-game : (c : Circuit) (readings controls : ℕ) → min readings (2 ^ base .uncontrollable) ≡ 2 ^ uncontrollableCount c → min controls (2 ^ base .controllable) ≡ 2 ^ controllableCount c → played readings controls c ≡ circuitGame c
 unfolding played circuitGame
@@ -142,17 +191,17 @@ module _ (c : Circuit) where
       whole : played readings controls c ≡ circuitGame c
       whole = whole-game c readings controls all-readings all-controls
 
-  pub many-readings-ranks : base .uncontrollable < uncontrollableCount c → table (λ s. 0) (2 ^ base .latches) ≡ rankTable (circuitGame (solvable c))
+  pub many-readings-solution : base .uncontrollable < uncontrollableCount c → zeroSolution ≡ solutionOf (circuitGame (solvable c))
   unfolding solvable tooMany
-  many-readings-ranks h = rw (lt-ltb (base .uncontrollable) (uncontrollableCount c) h) empty-ranks
+  many-readings-solution h = rw (lt-ltb (base .uncontrollable) (uncontrollableCount c) h) empty-solution
 
-  pub many-controls-ranks : base .controllable < controllableCount c → table (λ s. 0) (2 ^ base .latches) ≡ rankTable (circuitGame (solvable c))
+  pub many-controls-solution : base .controllable < controllableCount c → zeroSolution ≡ solutionOf (circuitGame (solvable c))
   unfolding solvable tooMany
-  many-controls-ranks h = rw (lt-ltb (base .controllable) (controllableCount c) h) (by (ltb (base .uncontrollable) (uncontrollableCount c)))
+  many-controls-solution h = rw (lt-ltb (base .controllable) (controllableCount c) h) (by (ltb (base .uncontrollable) (uncontrollableCount c)))
     where
-      by : (b : Bool) → table (λ s. 0) (2 ^ base .latches) ≡ rankTable (circuitGame (cond (b || true) emptyCircuit c))
-      by true = empty-ranks
-      by false = empty-ranks
+      by : (b : Bool) → zeroSolution ≡ solutionOf (circuitGame (cond (b || true) emptyCircuit c))
+      by true = empty-solution
+      by false = empty-solution
 
 -- the only reset state is 0
 pub realizable-at-zero : (c : Circuit) → (circuitGame c) .states ≤ 2 ^ base .latches → eqb (getD (rankTable (circuitGame c)) 0 0) 0 ≡ isRealizable c

@@ -1,80 +1,17 @@
--- `solver::ranks_lent` meets its contract: the empty circuit's ranks where there are too many inputs of a sort, else those of the circuit's own game.
-use Prim.Native.Nat.{ℕ, _^_, _-_}
-use native.Mathlib.Omega.{arith}
-use mathlib.Core.Path.{sym, ap, _∙_}
-use lib.ListN.{length}
-use lib.Pow.{pow-pos}
+-- `solver::ranks_lent` meets its contract: the ranks of the solution.
+use mathlib.Core.Path.{ap}
+use Rattle.solver.specs.Solution.{solutionOf}
+use Rattle.solver.specs.declared.Solution.{Solution}
 use borrow.Author.Needs.{needs}
-use Rattle.circuit.specs.Stored.{lent}
-use Rattle.circuit.proofs.laws.Counts.{lent-latches, lent-controllable, lent-others}
-use Rattle.solver.specs.RankTable.{rankTable}
-use Rattle.solver.proofs.laws.Solved.{played-solvable, many-readings-ranks, many-controls-ranks}
 use Rattle.solver.proofs.ranks_lent.Statement.{statement}
 use Rattle.solver.proofs.ranks_lent.Tie as tie
 
-controllable-count-requires : tie.Need-controllable-count-requires
-controllable-count-requires c κs = search needs
-
-sub-u : tie.Need-sub-u
-sub-u c = let a = c .before .before .before .before .before .before .before .before .args in
-    lent-others 0 (a .input .now) (a .controllable .now) (a .latch .now) (a .next .now) (a .output) (a .gate .now) (a .left .now) (a .right .now) (c .controllable-count .result) (c .controllable-count .ensures) .0
-
-zeros-requires : tie.Need-zeros-requires
-zeros-requires c κs = search needs
+solve-lent-requires : tie.Need-solve-lent-requires
+solve-lent-requires c κs = search needs
 
 returns : tie.Need-returns
-returns c = let w = c .before .before in
-    let a = w .before .before .before .before .before .before .before .before .args in
-    let u = lent-others 0 (a .input .now) (a .controllable .now) (a .latch .now) (a .next .now) (a .output) (a .gate .now) (a .left .now) (a .right .now) (w .controllable-count .result) (w .controllable-count .ensures) in
-    c .zeros .ensures ∙ many-readings-ranks (lent 0 (a .input .now) (a .controllable .now) (a .latch .now) (a .next .now) (a .output) (a .gate .now) (a .left .now) (a .right .now)) (omega (arith, u .1, c .before .if1 .taken))
-
-zeros-requires-2 : tie.Need-zeros-requires-2
-zeros-requires-2 c κs = search needs
-
-returns-2 : tie.Need-returns-2
-returns-2 c = let w = c .before .before .before in
-    let a = w .before .before .before .before .before .before .before .before .args in
-    let same = lent-controllable 0 (a .input .now) (a .controllable .now) (a .latch .now) (a .next .now) (a .output) (a .gate .now) (a .left .now) (a .right .now) in
-    c .zeros2 .ensures ∙ many-controls-ranks (lent 0 (a .input .now) (a .controllable .now) (a .latch .now) (a .next .now) (a .output) (a .gate .now) (a .left .now) (a .right .now)) (omega (arith, same, w .controllable-count .ensures, c .before .if2 .taken))
-
-fewer-requires : tie.Need-fewer-requires
-fewer-requires c κs = search needs
-
-numbers-requires : tie.Need-numbers-requires
-numbers-requires c κs = search needs
-
-numbers-requires-2 : tie.Need-numbers-requires-2
-numbers-requires-2 c κs = search needs
-
-numbers-requires-3 : tie.Need-numbers-requires-3
-numbers-requires-3 c κs = search needs
-
-rounds-requires : tie.Need-rounds-requires
-rounds-requires c κs = let l = c .before .before .before in
-    let a = l .before .before .before .before .before .before .before .before .before .before .before .args in
-    (rw (c .before .numbers2 .ensures) (pow-pos _), c .numbers3 .ensures ∙ ap (λ (n : ℕ). 2 ^ n) (l .fewer .ensures ∙ sym (lent-latches 0 (a .input .now) (a .controllable .now) (a .latch .now) (a .next .now) (a .output) (a .gate .now) (a .left .now) (a .right .now))))
-
-returns-3 : tie.Need-returns-3
-returns-3 c = let n = c .before .before in
-    let w = n .before .before .before .before .before in
-    let a = w .before .before .before .before .before .before .before .before .args in
-    let u = lent-others 0 (a .input .now) (a .controllable .now) (a .latch .now) (a .next .now) (a .output) (a .gate .now) (a .left .now) (a .right .now) (w .controllable-count .result) (w .controllable-count .ensures) in
-    let same = lent-controllable 0 (a .input .now) (a .controllable .now) (a .latch .now) (a .next .now) (a .output) (a .gate .now) (a .left .now) (a .right .now) in
-    c .rounds .ensures ∙ ap rankTable (played-solvable (lent 0 (a .input .now) (a .controllable .now) (a .latch .now) (a .next .now) (a .output) (a .gate .now) (a .left .now) (a .right .now)) (length (a .input .now) - w .controllable-count .result) (w .controllable-count .result) (n .before .numbers .result) (n .numbers2 .result) (u .1) (w .controllable-count .ensures ∙ sym same) (omega arith) (omega arith) (n .before .numbers .ensures) (n .numbers2 .ensures))
+unfolding solutionOf
+returns c = ap (λ (t : Solution). t .ranks) (c .before .solve-lent .ensures)
 
 pub ranks-lent-spec : {M : Type 1} → statement M
-ranks-lent-spec =
-    tie.close
-    (tie.spec
-    controllable-count-requires
-    sub-u
-    zeros-requires
-    returns
-    zeros-requires-2
-    returns-2
-    fewer-requires
-    numbers-requires
-    numbers-requires-2
-    numbers-requires-3
-    rounds-requires
-    returns-3)
+ranks-lent-spec = tie.close (tie.spec solve-lent-requires returns)

@@ -1,7 +1,8 @@
--- `solver::rounds::ranked` meets its contract: a rank once given stays; another is given exactly if some reading defeats.
+-- `solver::rounds::ranked` meets its contract: a rank once given stays, and its attack; another is given exactly if some reading defeats, the least one.
 use Rattle.circuit.specs.Stored.{lent}
 use Rattle.moves.specs.Played.{played, ranksIn}
 use Rattle.solver.proofs.laws.RankTable.{rank-kept, rank-given, rank-none}
+use Rattle.solver.proofs.laws.Attacks.{attack-kept, attack-new, attack-none}
 use borrow.Author.Needs.{needs}
 use Rattle.solver.proofs.rounds.ranked.Statement.{statement}
 use Rattle.solver.proofs.rounds.ranked.Tie as tie
@@ -13,7 +14,7 @@ returns : tie.Need-returns
 returns c = let x = c .before in
     let s = x .before .before .before .before .before .before .before .before .before .before .before in
     let a = s .args in
-    (rank-kept (played (a .readings) (a .controls) (lent 0 (a .input .now) (a .controllable .now) (a .latch .now) (a .next .now) (a .output) (a .gate .now) (a .left .now) (a .right .now))) (a .k) (ranksIn (a .ranks .now)) (a .state) (x .rank-at .result) (x .rank-at .ensures) (c .if1 .taken), s .pre .1 .1)
+    (rank-kept (played (a .readings) (a .controls) (lent 0 (a .input .now) (a .controllable .now) (a .latch .now) (a .next .now) (a .output) (a .gate .now) (a .left .now) (a .right .now))) (a .k) (ranksIn (a .ranks .now)) (a .state) (x .rank-at .result) (x .rank-at .ensures) (c .if1 .taken), attack-kept (played (a .readings) (a .controls) (lent 0 (a .input .now) (a .controllable .now) (a .latch .now) (a .next .now) (a .output) (a .gate .now) (a .left .now) (a .right .now))) (a .k) (a .ranks .now) (a .attack) (a .state) (x .rank-at .result) (x .rank-at .ensures) (c .if1 .taken), s .pre .1 .1)
 
 least-defeat-requires : tie.Need-least-defeat-requires
 least-defeat-requires c κs = search needs
@@ -21,8 +22,11 @@ least-defeat-requires c κs = search needs
 fewer-requires : tie.Need-fewer-requires
 fewer-requires c κs = search needs
 
-add-result : tie.Need-add-result
-add-result c = search needs
+add-t27 : tie.Need-add-t27
+add-t27 c = search needs
+
+cast-t28 : tie.Need-cast-t28
+cast-t28 c = search needs
 
 same-length : tie.Need-same-length
 same-length c = search needs
@@ -36,7 +40,8 @@ returns-2 c = let n = c .before in
     let r = c .before .before .before .before .before .before in
     let x = c .before .before .before .before .before .before .before .before .before .before in
     let a = x .before .before .before .before .before .before .before .before .before .before .before .args in
-    (rank-given (played (a .readings) (a .controls) (lent 0 (a .input .now) (a .controllable .now) (a .latch .now) (a .next .now) (a .output) (a .gate .now) (a .left .now) (a .right .now))) (a .k) (ranksIn (a .ranks .now)) (a .state) (x .rank-at .result) (x .rank-at .ensures) (r .least-defeat .result) (n .fewer .result) (c .before .before .before .before .before .before .before .before .before .if1 .left) (r .least-defeat .ensures .0) (n .fewer .ensures) (c .if2 .taken), r .least-defeat .ensures .1)
+    let q = r .least-defeat in
+    (rank-given (played (a .readings) (a .controls) (lent 0 (a .input .now) (a .controllable .now) (a .latch .now) (a .next .now) (a .output) (a .gate .now) (a .left .now) (a .right .now))) (a .k) (ranksIn (a .ranks .now)) (a .state) (x .rank-at .result) (x .rank-at .ensures) (q .result) (n .fewer .result) (c .before .before .before .before .before .before .before .before .before .if1 .left) (q .ensures .0) (n .fewer .ensures) (c .if2 .taken), attack-new (played (a .readings) (a .controls) (lent 0 (a .input .now) (a .controllable .now) (a .latch .now) (a .next .now) (a .output) (a .gate .now) (a .left .now) (a .right .now))) (a .k) (a .ranks .now) (a .attack) (a .state) (x .rank-at .result) (x .rank-at .ensures) (q .result) (n .fewer .result) (c .before .before .before .before .before .before .before .before .before .if1 .left) (q .ensures .0) (n .fewer .ensures) (c .if2 .taken), q .ensures .1)
 
 same-length-3 : tie.Need-same-length-3
 same-length-3 c = search needs
@@ -50,7 +55,8 @@ returns-3 c = let n = c .before in
     let r = c .before .before .before .before .before .before in
     let x = c .before .before .before .before .before .before .before .before .before .before in
     let a = x .before .before .before .before .before .before .before .before .before .before .before .args in
-    (rank-none (played (a .readings) (a .controls) (lent 0 (a .input .now) (a .controllable .now) (a .latch .now) (a .next .now) (a .output) (a .gate .now) (a .left .now) (a .right .now))) (a .k) (ranksIn (a .ranks .now)) (a .state) (x .rank-at .result) (x .rank-at .ensures) (r .least-defeat .result) (n .fewer .result) (c .before .before .before .before .before .before .before .before .before .if1 .left) (r .least-defeat .ensures .0) (n .fewer .ensures) (c .if2 .left), r .least-defeat .ensures .1)
+    let q = r .least-defeat in
+    (rank-none (played (a .readings) (a .controls) (lent 0 (a .input .now) (a .controllable .now) (a .latch .now) (a .next .now) (a .output) (a .gate .now) (a .left .now) (a .right .now))) (a .k) (ranksIn (a .ranks .now)) (a .state) (x .rank-at .result) (x .rank-at .ensures) (q .result) (n .fewer .result) (c .before .before .before .before .before .before .before .before .before .if1 .left) (q .ensures .0) (n .fewer .ensures) (c .if2 .left), attack-none (played (a .readings) (a .controls) (lent 0 (a .input .now) (a .controllable .now) (a .latch .now) (a .next .now) (a .output) (a .gate .now) (a .left .now) (a .right .now))) (a .k) (a .ranks .now) (a .attack) (a .state) (x .rank-at .result) (x .rank-at .ensures) (q .result) (n .fewer .result) (c .before .before .before .before .before .before .before .before .before .if1 .left) (q .ensures .0) (n .fewer .ensures) (c .if2 .left), q .ensures .1)
 
 pub ranked-spec : {M : Type 1} → statement M
 ranked-spec =
@@ -60,7 +66,8 @@ ranked-spec =
     returns
     least-defeat-requires
     fewer-requires
-    add-result
+    add-t27
+    cast-t28
     same-length
     same-length-2
     returns-2
