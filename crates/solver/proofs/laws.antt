@@ -1,5 +1,7 @@
 pub mod RankTable
 pub mod RegionByte
+pub mod Blocks
+pub mod Window
 pub mod Kept
 pub mod Over
 pub mod Solved

@@ -1,6 +1,6 @@
--- What a search for the least control that keeps knows (01, "The game"), at each state and reading: no control below the one where it
--- stands keeps out of the states of rank 1 to k, and that one, if it was looked at, gives no error and leads to a known state. Assumes nothing.
-use Prim.Native.Nat.{ℕ, _+_, _*_, _^_, _<_, _≤_}
+-- What a search for the least control that keeps knows (01, "The game"), at each state and reading: how many windows it looked at, and where
+-- each control of the last of them leads. No control before that window keeps out of the states of rank 1 to k. Assumes nothing.
+use Prim.Native.Nat.{ℕ, _+_, _*_, _-_, _^_, _<_, _≤_}
 use mathlib.Core.Bool.{false}
 use mathlib.Core.List.{List}
 use mathlib.Core.Path.{_≡_}
@@ -9,20 +9,18 @@ use Rattle.circuit.specs.Limits.{base}
 use Rattle.game.specs.Game.{Game}
 use Rattle.game.specs.Keeps.{keeps}
 use Rattle.game.specs.Rank.{notRanked}
+use Rattle.solver.specs.Window.{window, nowhere, leads, slotsAt}
 
--- no state: the control wasn't looked at yet
-abbrev pub nowhereYet : ℕ
-nowhereYet = 65535
+pub record KeptAt (g : Game) (ranks : ℕ → ℕ) (k state reading windows : ℕ) (slot : ℕ → ℕ) : Type 0 where
+  pub low : (j : ℕ) → (g .step state reading j) .next < 2 ^ base .latches
+  pub few : window * windows ≤ 2 ^ base .controllable
+  pub failed : (j : ℕ) → j + window < window * windows → keeps g (notRanked ranks k) state reading j ≡ false
+  pub seen : (j : ℕ) → j < window → 0 < windows → slot j ≡ leads g state reading (window * (windows - 1) + j)
+  pub unseen : (j : ℕ) → j < window → windows ≡ 0 → slot j ≡ nowhere
 
-pub record KeptAt (g : Game) (ranks : ℕ → ℕ) (k state reading control led : ℕ) : Type 0 where
-  pub within : control ≤ g .controls
-  pub failed : (j : ℕ) → j < control → keeps g (notRanked ranks k) state reading j ≡ false
-  pub safe : control < g .controls → led < 2 ^ base .latches → (g .step state reading control) .error ≡ false
-  pub leads : control < g .controls → led < 2 ^ base .latches → (g .step state reading control) .next ≡ led
-
-pub record AllKept (g : Game) (ranks : ℕ → ℕ) (k : ℕ) (kept led : List ℕ) : Type 0 where
-  pub kept-long : length kept ≡ 2 ^ base .latches * 2 ^ base .uncontrollable
-  pub led-long : length led ≡ 2 ^ base .latches * 2 ^ base .uncontrollable
+pub record AllKept (g : Game) (ranks : ℕ → ℕ) (k : ℕ) (looked slots : List ℕ) : Type 0 where
+  pub looked-long : length looked ≡ 2 ^ base .latches * 2 ^ base .uncontrollable
+  pub slots-long : length slots ≡ 2 ^ base .latches * 2 ^ base .uncontrollable * window
   pub few-states : g .states ≤ 2 ^ base .latches
   pub few-readings : g .readings ≤ 2 ^ base .uncontrollable
-  pub at : (s r : ℕ) → s < g .states → r < g .readings → KeptAt g ranks k s r (getD kept (s * g .readings + r) 0) (getD led (s * g .readings + r) 0)
+  pub at : (s r : ℕ) → s < g .states → r < g .readings → KeptAt g ranks k s r (getD looked (s * g .readings + r) 0) (slotsAt slots (s * g .readings + r))

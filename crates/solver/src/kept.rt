@@ -1,32 +1,39 @@
-// The controls that still keep (01, "The game"): for each state and reading the least one that does, or as many as there are, with the
-// state it leads to. Ranks only grow, so a control that stopped keeping never keeps again, and a search goes on from the one kept.
+// What is kept from round to round (01, "The game"): for each state and reading the window of the least control that keeps, and where each
+// control of that window leads. Ranks only grow, so a control that stopped keeping never keeps again, and a search goes on behind the
+// windows looked at.
+use crate::blocks::keeping_from;
+use crate::window::NOWHERE;
+use crate::window::WINDOW;
+use crate::window::keeping_slot;
+use crate::window::put_window;
 use circuit::Circuit;
-use moves::Kept;
 ghost use Prim.Native.Nat.{ℕ, _+_, _*_, _/_, _%_, _^_, min, _<_, _≤_};
 ghost use mathlib.Core.Bool.{cond};
 ghost use mathlib.Core.Path.{_≡_};
 ghost use lib.Dec.{ltb};
+ghost use lib.ListN.{length};
 ghost use Rattle.below.specs.Least.{least};
 ghost use Rattle.below.specs.Table.{table};
 ghost use Rattle.circuit.specs.Limits.{base};
 ghost use Rattle.circuit.specs.Stored.{lent};
+ghost use Rattle.game.specs.Keeps.{keeps};
 ghost use Rattle.game.specs.Rank.{notRanked, defeats};
-ghost use Rattle.moves.specs.KeptFrom.{keptFrom};
 ghost use Rattle.moves.specs.Played.{played, ranksIn};
-ghost use Rattle.solver.specs.AllKept.{KeptAt, AllKept, nowhereYet};
+ghost use Rattle.solver.specs.AllKept.{KeptAt, AllKept};
 ghost use Rattle.solver.specs.Over.{replyOver};
+ghost use Rattle.solver.specs.Window.{window, nowhere, slotsAt};
 
-// Before the first look the search stands at control 0 everywhere, and nothing is known of where it leads.
-pub(crate) fn none_kept() -> [u16; Circuit::REPLIES]
+// Before the first look no window was looked at, and nothing is known of where a control leads.
+pub(crate) fn none_looked() -> [u8; Circuit::REPLIES]
     ensures { λ r. ⌜ r ≡ table (λ i. 0) (2 ^ base .latches * 2 ^ base .uncontrollable) ⌝ }
 {
-    [0u16; Circuit::REPLIES]
+    [0u8; Circuit::REPLIES]
 }
 
-pub(crate) fn nowhere() -> [u16; Circuit::REPLIES]
-    ensures { λ r. ⌜ r ≡ table (λ i. nowhereYet) (2 ^ base .latches * 2 ^ base .uncontrollable) ⌝ }
+pub(crate) fn none_led() -> [u16; Circuit::REPLIES * WINDOW]
+    ensures { λ r. ⌜ r ≡ table (λ i. nowhere) (2 ^ base .latches * 2 ^ base .uncontrollable * window) ⌝ }
 {
-    [65535u16; Circuit::REPLIES]
+    [NOWHERE; Circuit::REPLIES * WINDOW]
 }
 
 // The least reading that defeats, or as many as there are.
@@ -44,12 +51,12 @@ pub(crate) fn least_defeat<'a>(
     ranks: &'a [u16],
     k: u16,
     state: u16,
-    kept: &mut [u16],
-    led: &mut [u16],
+    looked: &mut [u8],
+    slots: &mut [u16],
 ) -> usize
     requires { ⌜ state < (played readings controls (lent 0 (now input) (now controllable) (now latch) (now next) output (now gate) (now left) (now right))) .states ⌝ }
-    requires { ⌜ AllKept (played readings controls (lent 0 (now input) (now controllable) (now latch) (now next) output (now gate) (now left) (now right))) (ranksIn (now ranks)) k (now kept) (now led) ⌝ }
-    ensures { λ r. ⌜ (r ≡ least (defeats (played readings controls (lent 0 (now (input .entry)) (now (controllable .entry)) (now (latch .entry)) (now (next .entry)) output (now (gate .entry)) (now (left .entry)) (now (right .entry)))) (ranksIn (now (ranks .entry))) k state) (min readings (2 ^ base .uncontrollable))) × AllKept (played readings controls (lent 0 (now (input .entry)) (now (controllable .entry)) (now (latch .entry)) (now (next .entry)) output (now (gate .entry)) (now (left .entry)) (now (right .entry)))) (ranksIn (now (ranks .entry))) k (now (kept .exit)) (now (led .exit)) ⌝ }
+    requires { ⌜ AllKept (played readings controls (lent 0 (now input) (now controllable) (now latch) (now next) output (now gate) (now left) (now right))) (ranksIn (now ranks)) k (now looked) (now slots) ⌝ }
+    ensures { λ r. ⌜ (r ≡ least (defeats (played readings controls (lent 0 (now (input .entry)) (now (controllable .entry)) (now (latch .entry)) (now (next .entry)) output (now (gate .entry)) (now (left .entry)) (now (right .entry)))) (ranksIn (now (ranks .entry))) k state) (min readings (2 ^ base .uncontrollable))) × AllKept (played readings controls (lent 0 (now (input .entry)) (now (controllable .entry)) (now (latch .entry)) (now (next .entry)) output (now (gate .entry)) (now (left .entry)) (now (right .entry)))) (ranksIn (now (ranks .entry))) k (now (looked .exit)) (now (slots .exit)) ⌝ }
 {
     let n = below::fewer(readings, Circuit::READINGS);
     let first = state as usize * n;
@@ -71,8 +78,8 @@ pub(crate) fn least_defeat<'a>(
             state,
             r,
             first + r,
-            kept,
-            led,
+            looked,
+            slots,
         ) {
             return r;
         }
@@ -96,13 +103,13 @@ pub(crate) fn replies_kept<'a>(
     states: usize,
     ranks: &'a [u16],
     k: u16,
-    kept: &'a [u16],
-    led: &'a [u16],
+    looked: &'a [u8],
+    slots: &'a [u16],
 ) -> [u8; Circuit::REPLIES]
     requires { ⌜ 0 < readings ⌝ }
     requires { ⌜ states ≤ (played readings controls (lent 0 (now input) (now controllable) (now latch) (now next) output (now gate) (now left) (now right))) .states ⌝ }
     requires { ⌜ ((t : ℕ) → ranksIn (now ranks) t ≤ k) ⌝ }
-    requires { ⌜ AllKept (played readings controls (lent 0 (now input) (now controllable) (now latch) (now next) output (now gate) (now left) (now right))) (ranksIn (now ranks)) k (now kept) (now led) ⌝ }
+    requires { ⌜ AllKept (played readings controls (lent 0 (now input) (now controllable) (now latch) (now next) output (now gate) (now left) (now right))) (ranksIn (now ranks)) k (now looked) (now slots) ⌝ }
     ensures { λ r. ⌜ r ≡ table (λ i. cond (ltb i (states * min readings (2 ^ base .uncontrollable))) (replyOver (played 0 controls (lent 0 (now (input .entry)) (now (controllable .entry)) (now (latch .entry)) (now (next .entry)) output (now (gate .entry)) (now (left .entry)) (now (right .entry)))) (now (ranks .entry)) (i / min readings (2 ^ base .uncontrollable)) (i % min readings (2 ^ base .uncontrollable))) 0) (2 ^ base .latches * 2 ^ base .uncontrollable) ⌝ }
 {
     let width = below::fewer(readings, Circuit::READINGS);
@@ -124,8 +131,9 @@ pub(crate) fn replies_kept<'a>(
             k,
             (i / width) as u16,
             (i % width) as u8,
-            kept[i],
-            led[i],
+            looked[i],
+            slots,
+            i,
         );
         replies[i] = reply;
         i += 1;
@@ -139,7 +147,7 @@ pub(crate) fn no_replies() -> [u8; Circuit::REPLIES]
     [0u8; Circuit::REPLIES]
 }
 
-// The reply at a state and a reading, where the search stands at a control and no rank is above k.
+// The reply at a state and a reading, where no rank is above k.
 fn reply_kept<'a>(
     input: &'a [u16],
     controllable: &'a [u8],
@@ -154,17 +162,20 @@ fn reply_kept<'a>(
     k: u16,
     state: u16,
     reading: u8,
-    control: u16,
-    led: u16,
+    windows: u8,
+    slots: &'a [u16],
+    i: usize,
 ) -> u8
     requires { ⌜ ((t : ℕ) → ranksIn (now ranks) t ≤ k) ⌝ }
-    requires { ⌜ KeptAt (played 0 controls (lent 0 (now input) (now controllable) (now latch) (now next) output (now gate) (now left) (now right))) (ranksIn (now ranks)) k state reading control led ⌝ }
+    requires { ⌜ i < 2 ^ base .latches * 2 ^ base .uncontrollable ⌝ }
+    requires { ⌜ length (now slots) ≡ 2 ^ base .latches * 2 ^ base .uncontrollable * window ⌝ }
+    requires { ⌜ KeptAt (played 0 controls (lent 0 (now input) (now controllable) (now latch) (now next) output (now gate) (now left) (now right))) (ranksIn (now ranks)) k state reading windows (slotsAt (now slots) i) ⌝ }
     ensures { λ r. ⌜ r ≡ replyOver (played 0 controls (lent 0 (now (input .entry)) (now (controllable .entry)) (now (latch .entry)) (now (next .entry)) output (now (gate .entry)) (now (left .entry)) (now (right .entry)))) (now (ranks .entry)) state reading ⌝ }
 {
     if 0 < moves::rank_at(ranks, state as usize) {
         return 0;
     }
-    let found = look(
+    let least = least_kept(
         input,
         controllable,
         latch,
@@ -178,13 +189,61 @@ fn reply_kept<'a>(
         k,
         state,
         reading,
-        control,
-        led,
+        windows,
+        slots,
+        i,
     );
-    crate::found(found.control, below::fewer(controls, Circuit::CONTROLS))
+    crate::found(least, below::fewer(controls, Circuit::CONTROLS))
 }
 
-// Looks again for a control that keeps, at a state and a reading, and keeps what is found. Whether the reading defeats.
+// The least control that keeps: one of the window, or one behind it.
+fn least_kept<'a>(
+    input: &'a [u16],
+    controllable: &'a [u8],
+    latch: &'a [u16],
+    next: &'a [u16],
+    output: u16,
+    gate: &'a [u16],
+    left: &'a [u16],
+    right: &'a [u16],
+    controls: usize,
+    ranks: &'a [u16],
+    k: u16,
+    state: u16,
+    reading: u8,
+    windows: u8,
+    slots: &'a [u16],
+    i: usize,
+) -> usize
+    requires { ⌜ i < 2 ^ base .latches * 2 ^ base .uncontrollable ⌝ }
+    requires { ⌜ length (now slots) ≡ 2 ^ base .latches * 2 ^ base .uncontrollable * window ⌝ }
+    requires { ⌜ KeptAt (played 0 controls (lent 0 (now input) (now controllable) (now latch) (now next) output (now gate) (now left) (now right))) (ranksIn (now ranks)) k state reading windows (slotsAt (now slots) i) ⌝ }
+    ensures { λ r. ⌜ r ≡ least (keeps (played 0 controls (lent 0 (now (input .entry)) (now (controllable .entry)) (now (latch .entry)) (now (next .entry)) output (now (gate .entry)) (now (left .entry)) (now (right .entry)))) (notRanked (ranksIn (now (ranks .entry))) k) state reading) (min controls (2 ^ base .controllable)) ⌝ }
+{
+    let j = keeping_slot(slots, i * WINDOW, ranks, k);
+    if j < WINDOW {
+        return (windows as usize - 1) * WINDOW + j;
+    }
+    let found = keeping_from(
+        input,
+        controllable,
+        latch,
+        next,
+        output,
+        gate,
+        left,
+        right,
+        controls,
+        ranks,
+        k,
+        state,
+        reading,
+        windows as usize * WINDOW,
+    );
+    found.control
+}
+
+// Looks for a control that keeps, at a state and a reading, and keeps its window. Whether the reading defeats.
 fn look_at<'a>(
     input: &'a [u16],
     controllable: &'a [u8],
@@ -201,17 +260,20 @@ fn look_at<'a>(
     state: u16,
     reading: usize,
     i: usize,
-    kept: &mut [u16],
-    led: &mut [u16],
+    looked: &mut [u8],
+    slots: &mut [u16],
 ) -> bool
     requires { ⌜ state < (played readings controls (lent 0 (now input) (now controllable) (now latch) (now next) output (now gate) (now left) (now right))) .states ⌝ }
     requires { ⌜ reading < min readings (2 ^ base .uncontrollable) ⌝ }
     requires { ⌜ i ≡ state * min readings (2 ^ base .uncontrollable) + reading ⌝ }
     requires { ⌜ i < 2 ^ base .latches * 2 ^ base .uncontrollable ⌝ }
-    requires { ⌜ AllKept (played readings controls (lent 0 (now input) (now controllable) (now latch) (now next) output (now gate) (now left) (now right))) (ranksIn (now ranks)) k (now kept) (now led) ⌝ }
-    ensures { λ r. ⌜ (r ≡ defeats (played readings controls (lent 0 (now (input .entry)) (now (controllable .entry)) (now (latch .entry)) (now (next .entry)) output (now (gate .entry)) (now (left .entry)) (now (right .entry)))) (ranksIn (now (ranks .entry))) k state reading) × AllKept (played readings controls (lent 0 (now (input .entry)) (now (controllable .entry)) (now (latch .entry)) (now (next .entry)) output (now (gate .entry)) (now (left .entry)) (now (right .entry)))) (ranksIn (now (ranks .entry))) k (now (kept .exit)) (now (led .exit)) ⌝ }
+    requires { ⌜ AllKept (played readings controls (lent 0 (now input) (now controllable) (now latch) (now next) output (now gate) (now left) (now right))) (ranksIn (now ranks)) k (now looked) (now slots) ⌝ }
+    ensures { λ r. ⌜ (r ≡ defeats (played readings controls (lent 0 (now (input .entry)) (now (controllable .entry)) (now (latch .entry)) (now (next .entry)) output (now (gate .entry)) (now (left .entry)) (now (right .entry)))) (ranksIn (now (ranks .entry))) k state reading) × AllKept (played readings controls (lent 0 (now (input .entry)) (now (controllable .entry)) (now (latch .entry)) (now (next .entry)) output (now (gate .entry)) (now (left .entry)) (now (right .entry)))) (ranksIn (now (ranks .entry))) k (now (looked .exit)) (now (slots .exit)) ⌝ }
 {
-    let found = look(
+    if keeping_slot(slots, i * WINDOW, ranks, k) < WINDOW {
+        return false;
+    }
+    let found = keeping_from(
         input,
         controllable,
         latch,
@@ -225,65 +287,23 @@ fn look_at<'a>(
         k,
         state,
         reading as u8,
-        kept[i],
-        led[i],
+        looked[i] as usize * WINDOW,
     );
-    kept[i] = found.control as u16;
-    led[i] = found.next;
-    below::fewer(controls, Circuit::CONTROLS) <= found.control
-}
-
-// The least control that keeps, where the search stands at one and knows where it leads.
-fn look<'a>(
-    input: &'a [u16],
-    controllable: &'a [u8],
-    latch: &'a [u16],
-    next: &'a [u16],
-    output: u16,
-    gate: &'a [u16],
-    left: &'a [u16],
-    right: &'a [u16],
-    controls: usize,
-    ranks: &'a [u16],
-    k: u16,
-    state: u16,
-    reading: u8,
-    control: u16,
-    led: u16,
-) -> Kept
-    requires { ⌜ KeptAt (played 0 controls (lent 0 (now input) (now controllable) (now latch) (now next) output (now gate) (now left) (now right))) (ranksIn (now ranks)) k state reading control led ⌝ }
-    ensures { λ r. ⌜ r ≡ keptFrom (played 0 controls (lent 0 (now (input .entry)) (now (controllable .entry)) (now (latch .entry)) (now (next .entry)) output (now (gate .entry)) (now (left .entry)) (now (right .entry)))) (notRanked (ranksIn (now (ranks .entry))) k) state reading 0 ⌝ }
-{
     let n = below::fewer(controls, Circuit::CONTROLS);
-    let from = control as usize;
-    if n <= from {
-        return Kept {
-            control: n,
-            next: 0,
-        };
+    if n <= found.control {
+        return true;
     }
-    if (led as usize) < Circuit::STATES {
-        if moves::is_unranked(ranks, k, led as usize) {
-            return Kept {
-                control: from,
-                next: led,
-            };
-        }
-    }
-    moves::least_control_from(
-        input,
-        controllable,
-        latch,
-        next,
-        output,
-        gate,
-        left,
-        right,
-        controls,
-        ranks,
-        k,
-        state,
-        reading,
-        from,
-    )
+    let w = found.control / WINDOW;
+    let steps = found.steps;
+    let words = steps.next;
+    looked[i] = (w + 1) as u8;
+    put_window(
+        slots,
+        i * WINDOW,
+        steps.error,
+        &words,
+        w * WINDOW % 64,
+        n - w * WINDOW,
+    );
+    false
 }

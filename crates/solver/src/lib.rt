@@ -1,7 +1,9 @@
 // The solver (01, "The game"): ranks by rounds, each worked out from the one before, kept whole; and from ranks the replies and attacks.
+mod blocks;
 mod kept;
 pub mod region;
 mod rounds;
+mod window;
 
 use circuit::Circuit;
 use kept::no_replies;

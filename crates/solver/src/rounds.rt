@@ -1,8 +1,8 @@
 // The rounds of the solver (01, "The game"): each is worked out from the ranks of the one before, kept whole.
 use crate::Solution;
 use crate::kept::least_defeat;
-use crate::kept::none_kept;
-use crate::kept::nowhere;
+use crate::kept::none_led;
+use crate::kept::none_looked;
 use crate::kept::replies_kept;
 use circuit::Circuit;
 ghost use Prim.Native.Nat.{ℕ, _^_, _<_, _≤_};
@@ -42,8 +42,8 @@ pub(crate) fn rounds<'a>(
     requires { ⌜ states ≡ 2 ^ latchCount (lent 0 (now input) (now controllable) (now latch) (now next) output (now gate) (now left) (now right)) ⌝ }
     ensures { λ r. ⌜ r ≡ solutionOf (played readings controls (lent 0 (now (input .entry)) (now (controllable .entry)) (now (latch .entry)) (now (next .entry)) output (now (gate .entry)) (now (left .entry)) (now (right .entry)))) ⌝ }
 {
-    let mut kept = none_kept();
-    let mut led = nowhere();
+    let mut looked = none_looked();
+    let mut slots = none_led();
     let mut attacks = no_attacks();
     let mut ranks = zeros();
     let mut k = 0;
@@ -63,8 +63,8 @@ pub(crate) fn rounds<'a>(
             ranks,
             k as u16,
             &mut attacks,
-            &mut kept,
-            &mut led,
+            &mut looked,
+            &mut slots,
         );
         let changed = changes(&ranks, &after, states);
         if !changed {
@@ -83,8 +83,8 @@ pub(crate) fn rounds<'a>(
                 ranks,
                 attacks,
                 k as u16,
-                &kept,
-                &led,
+                &looked,
+                &slots,
             );
         }
         ranks = after;
@@ -105,8 +105,8 @@ pub(crate) fn rounds<'a>(
         ranks,
         attacks,
         k as u16,
-        &kept,
-        &led,
+        &looked,
+        &slots,
     )
 }
 
@@ -126,15 +126,15 @@ fn solved<'a>(
     ranks: [u16; Circuit::STATES],
     attacks: [u8; Circuit::STATES],
     k: u16,
-    kept: &'a [u16],
-    led: &'a [u16],
+    looked: &'a [u8],
+    slots: &'a [u16],
 ) -> Solution
     requires { ⌜ 0 < readings ⌝ }
     requires { ⌜ Fair (played readings controls (lent 0 (now input) (now controllable) (now latch) (now next) output (now gate) (now left) (now right))) states ⌝ }
     requires { ⌜ ranks ≡ rankTable (played readings controls (lent 0 (now input) (now controllable) (now latch) (now next) output (now gate) (now left) (now right))) ⌝ }
     requires { ⌜ attacks ≡ attackTable (played readings controls (lent 0 (now input) (now controllable) (now latch) (now next) output (now gate) (now left) (now right))) ⌝ }
     requires { ⌜ ((t : ℕ) → ranksIn ranks t ≤ k) ⌝ }
-    requires { ⌜ AllKept (played readings controls (lent 0 (now input) (now controllable) (now latch) (now next) output (now gate) (now left) (now right))) (ranksIn ranks) k (now kept) (now led) ⌝ }
+    requires { ⌜ AllKept (played readings controls (lent 0 (now input) (now controllable) (now latch) (now next) output (now gate) (now left) (now right))) (ranksIn ranks) k (now looked) (now slots) ⌝ }
     ensures { λ r. ⌜ r ≡ solutionOf (played readings controls (lent 0 (now (input .entry)) (now (controllable .entry)) (now (latch .entry)) (now (next .entry)) output (now (gate .entry)) (now (left .entry)) (now (right .entry)))) ⌝ }
 {
     let replies = replies_kept(
@@ -151,8 +151,8 @@ fn solved<'a>(
         states,
         &ranks,
         k,
-        kept,
-        led,
+        looked,
+        slots,
     );
     Solution {
         ranks,
@@ -189,14 +189,14 @@ fn round<'a>(
     ranks: [u16; Circuit::STATES],
     k: u16,
     attacks: &mut [u8],
-    kept: &mut [u16],
-    led: &mut [u16],
+    looked: &mut [u8],
+    slots: &mut [u16],
 ) -> [u16; Circuit::STATES]
     requires { ⌜ k ≤ 2 ^ base .latches ⌝ }
     requires { ⌜ states ≤ (played readings controls (lent 0 (now input) (now controllable) (now latch) (now next) output (now gate) (now left) (now right))) .states ⌝ }
     requires { ⌜ length (now attacks) ≡ 2 ^ base .latches ⌝ }
-    requires { ⌜ AllKept (played readings controls (lent 0 (now input) (now controllable) (now latch) (now next) output (now gate) (now left) (now right))) (ranksIn ranks) k (now kept) (now led) ⌝ }
-    ensures { λ r. ⌜ (r ≡ roundTable (played readings controls (lent 0 (now (input .entry)) (now (controllable .entry)) (now (latch .entry)) (now (next .entry)) output (now (gate .entry)) (now (left .entry)) (now (right .entry)))) states k ranks) × (now (attacks .exit) ≡ attacksAfter (played readings controls (lent 0 (now (input .entry)) (now (controllable .entry)) (now (latch .entry)) (now (next .entry)) output (now (gate .entry)) (now (left .entry)) (now (right .entry)))) states k ranks (now (attacks .entry))) × AllKept (played readings controls (lent 0 (now (input .entry)) (now (controllable .entry)) (now (latch .entry)) (now (next .entry)) output (now (gate .entry)) (now (left .entry)) (now (right .entry)))) (ranksIn ranks) k (now (kept .exit)) (now (led .exit)) ⌝ }
+    requires { ⌜ AllKept (played readings controls (lent 0 (now input) (now controllable) (now latch) (now next) output (now gate) (now left) (now right))) (ranksIn ranks) k (now looked) (now slots) ⌝ }
+    ensures { λ r. ⌜ (r ≡ roundTable (played readings controls (lent 0 (now (input .entry)) (now (controllable .entry)) (now (latch .entry)) (now (next .entry)) output (now (gate .entry)) (now (left .entry)) (now (right .entry)))) states k ranks) × (now (attacks .exit) ≡ attacksAfter (played readings controls (lent 0 (now (input .entry)) (now (controllable .entry)) (now (latch .entry)) (now (next .entry)) output (now (gate .entry)) (now (left .entry)) (now (right .entry)))) states k ranks (now (attacks .entry))) × AllKept (played readings controls (lent 0 (now (input .entry)) (now (controllable .entry)) (now (latch .entry)) (now (next .entry)) output (now (gate .entry)) (now (left .entry)) (now (right .entry)))) (ranksIn ranks) k (now (looked .exit)) (now (slots .exit)) ⌝ }
 {
     let mut after = ranks;
     let mut s = 0;
@@ -216,8 +216,8 @@ fn round<'a>(
             k,
             s as u16,
             attacks[s],
-            kept,
-            led,
+            looked,
+            slots,
         );
         after[s] = given.rank;
         attacks[s] = given.attack;
@@ -248,13 +248,13 @@ fn ranked<'a>(
     k: u16,
     state: u16,
     attack: u8,
-    kept: &mut [u16],
-    led: &mut [u16],
+    looked: &mut [u8],
+    slots: &mut [u16],
 ) -> Given
     requires { ⌜ k ≤ 2 ^ base .latches ⌝ }
     requires { ⌜ state < (played readings controls (lent 0 (now input) (now controllable) (now latch) (now next) output (now gate) (now left) (now right))) .states ⌝ }
-    requires { ⌜ AllKept (played readings controls (lent 0 (now input) (now controllable) (now latch) (now next) output (now gate) (now left) (now right))) (ranksIn (now ranks)) k (now kept) (now led) ⌝ }
-    ensures { λ r. ⌜ (r .rank ≡ roundOf (played readings controls (lent 0 (now (input .entry)) (now (controllable .entry)) (now (latch .entry)) (now (next .entry)) output (now (gate .entry)) (now (left .entry)) (now (right .entry)))) k (ranksIn (now (ranks .entry))) state) × (r .attack ≡ attackAfter (played readings controls (lent 0 (now (input .entry)) (now (controllable .entry)) (now (latch .entry)) (now (next .entry)) output (now (gate .entry)) (now (left .entry)) (now (right .entry)))) k (now (ranks .entry)) attack state) × AllKept (played readings controls (lent 0 (now (input .entry)) (now (controllable .entry)) (now (latch .entry)) (now (next .entry)) output (now (gate .entry)) (now (left .entry)) (now (right .entry)))) (ranksIn (now (ranks .entry))) k (now (kept .exit)) (now (led .exit)) ⌝ }
+    requires { ⌜ AllKept (played readings controls (lent 0 (now input) (now controllable) (now latch) (now next) output (now gate) (now left) (now right))) (ranksIn (now ranks)) k (now looked) (now slots) ⌝ }
+    ensures { λ r. ⌜ (r .rank ≡ roundOf (played readings controls (lent 0 (now (input .entry)) (now (controllable .entry)) (now (latch .entry)) (now (next .entry)) output (now (gate .entry)) (now (left .entry)) (now (right .entry)))) k (ranksIn (now (ranks .entry))) state) × (r .attack ≡ attackAfter (played readings controls (lent 0 (now (input .entry)) (now (controllable .entry)) (now (latch .entry)) (now (next .entry)) output (now (gate .entry)) (now (left .entry)) (now (right .entry)))) k (now (ranks .entry)) attack state) × AllKept (played readings controls (lent 0 (now (input .entry)) (now (controllable .entry)) (now (latch .entry)) (now (next .entry)) output (now (gate .entry)) (now (left .entry)) (now (right .entry)))) (ranksIn (now (ranks .entry))) k (now (looked .exit)) (now (slots .exit)) ⌝ }
 {
     let x = moves::rank_at(ranks, state as usize);
     if 0 < x {
@@ -274,8 +274,8 @@ fn ranked<'a>(
         ranks,
         k,
         state,
-        kept,
-        led,
+        looked,
+        slots,
     );
     let n = below::fewer(readings, Circuit::READINGS);
     if r < n {

@@ -20,6 +20,7 @@ use Rattle.solver.specs.Fair.{Fair}
 use Rattle.solver.specs.Over.{replyOver}
 use Rattle.solver.specs.RankTable.{rankTable}
 use Rattle.solver.specs.Solution.{replyTable}
+use Rattle.solver.specs.Window.{window, slotsAt}
 use Rattle.solver.proofs.laws.Kept.{look-start}
 use Rattle.solver.proofs.laws.Over.{reply-over-is-reply}
 use Rattle.solver.proofs.laws.Solution.{reply-any-readings}
@@ -48,14 +49,14 @@ replies-end readings controls states c ranks some fair e = table-same _ _ (2 ^ b
     at i = here i ∙ λ x. cond (ltb i (fair .all x * R-is x)) (reply (played readings controls c) (i / R-is x) (i % R-is x)) 0
 
 -- the places of so many replies lie in the lists
-pub record Places (n : ℕ) (kept led : List ℕ) : Type 0 where
+pub record Places (n : ℕ) (looked slots : List ℕ) : Type 0 where
   pub few : n ≤ 2 ^ base .latches * 2 ^ base .uncontrollable
-  pub kept-long : length kept ≡ 2 ^ base .latches * 2 ^ base .uncontrollable
-  pub led-long : length led ≡ 2 ^ base .latches * 2 ^ base .uncontrollable
+  pub looked-long : length looked ≡ 2 ^ base .latches * 2 ^ base .uncontrollable
+  pub slots-long : length slots ≡ 2 ^ base .latches * 2 ^ base .uncontrollable * window
 
-module _ (readings controls : ℕ) (c : Circuit) (ranks : ℕ → ℕ) (k : ℕ) (kept led : List ℕ) (all : AllKept (played readings controls c) ranks k kept led) (states width : ℕ) (some-states : states ≤ (played readings controls c) .states) (width-is : width ≡ min readings (2 ^ base .uncontrollable)) where
-  pub places : Places (states * width) kept led
-  places = record { few = mul-le-mul low narrow; kept-long = all .kept-long; led-long = all .led-long }
+module _ (readings controls : ℕ) (c : Circuit) (ranks : ℕ → ℕ) (k : ℕ) (looked slots : List ℕ) (all : AllKept (played readings controls c) ranks k looked slots) (states width : ℕ) (some-states : states ≤ (played readings controls c) .states) (width-is : width ≡ min readings (2 ^ base .uncontrollable)) where
+  pub places : Places (states * width) looked slots
+  places = record { few = mul-le-mul low narrow; looked-long = all .looked-long; slots-long = all .slots-long }
     where
       low : states ≤ 2 ^ base .latches
       low = omega (arith, all .few-states)
@@ -80,5 +81,5 @@ module _ (readings controls : ℕ) (c : Circuit) (ranks : ℕ → ℕ) (k : ℕ)
     reading-fits = omega (arith, reading-of)
 
     -- the search at the place of a state and a reading
-    pub kept-there : KeptAt (played 0 controls c) ranks k (i / width) (i % width) (getD kept i 0) (getD led i 0)
-    kept-there = look-start readings controls c ranks k kept led all (i / width) (i % width) i (omega (arith, state-of)) (omega (arith, reading-of)) (sym (div-add-mod' i width) ∙ ap (λ (n : ℕ). i / width * n + i % width) width-is)
+    pub kept-there : KeptAt (played 0 controls c) ranks k (i / width) (i % width) (getD looked i 0) (slotsAt slots i)
+    kept-there = look-start readings controls c ranks k looked slots all (i / width) (i % width) i (omega (arith, state-of)) (omega (arith, reading-of)) (sym (div-add-mod' i width) ∙ ap (λ (n : ℕ). i / width * n + i % width) width-is)

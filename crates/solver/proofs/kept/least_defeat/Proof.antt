@@ -14,10 +14,10 @@ use Rattle.solver.proofs.kept.least_defeat.Statement.{statement}
 use Rattle.solver.proofs.kept.least_defeat.Tie as tie
 
 abbrev Inv-loop : tie.InvT-loop
-Inv-loop input controllable latch next output gate left right readings controls ranks k state kept₀ led₀ n first r₀ kept led r = Passed (defeats (played readings controls (lent 0 input controllable latch next output gate left right)) (ranksIn ranks) k state) (min readings (2 ^ base .uncontrollable)) r × AllKept (played readings controls (lent 0 input controllable latch next output gate left right)) (ranksIn ranks) k kept led
+Inv-loop input controllable latch next output gate left right readings controls ranks k state looked₀ slots₀ n first r₀ looked slots r = Passed (defeats (played readings controls (lent 0 input controllable latch next output gate left right)) (ranksIn ranks) k state) (min readings (2 ^ base .uncontrollable)) r × AllKept (played readings controls (lent 0 input controllable latch next output gate left right)) (ranksIn ranks) k looked slots
 
 abbrev μ-loop : tie.MeasureT-loop
-μ-loop input controllable latch next output gate left right readings controls ranks k state kept₀ led₀ n first r₀ kept led r = n - r
+μ-loop input controllable latch next output gate left right readings controls ranks k state looked₀ slots₀ n first r₀ looked slots r = n - r
 
 fewer-requires : tie.Need-fewer-requires Inv-loop μ-loop
 fewer-requires c κs = search needs
@@ -25,7 +25,7 @@ fewer-requires c κs = search needs
 mul-first : tie.Need-mul-first Inv-loop μ-loop
 mul-first c = let s = c .before .before .before .before .before .before .before .before .before .before .before in
     let a = s .args in
-    omega (arith, first-fits (a .readings) (a .controls) (lent 0 (a .input .now) (a .controllable .now) (a .latch .now) (a .next .now) (a .output) (a .gate .now) (a .left .now) (a .right .now)) (ranksIn (a .ranks .now)) (a .k) (a .kept .now) (a .led .now) (s .pre .1) (a .state) (c .fewer .result) (s .pre .0) (c .fewer .ensures))
+    omega (arith, first-fits (a .readings) (a .controls) (lent 0 (a .input .now) (a .controllable .now) (a .latch .now) (a .next .now) (a .output) (a .gate .now) (a .left .now) (a .right .now)) (ranksIn (a .ranks .now)) (a .k) (a .looked .now) (a .slots .now) (s .pre .1) (a .state) (c .fewer .result) (s .pre .0) (c .fewer .ensures))
 
 loop-holds : tie.Need-loop-holds Inv-loop μ-loop
 loop-holds c = (passed-start _ _, c .before .before .before .before .before .before .before .before .before .before .before .pre .1)
@@ -34,14 +34,14 @@ add-look-at : tie.Need-add-look-at Inv-loop μ-loop
 add-look-at c = let s = c .before .before .before .before .before .before .before .before .before .before .before .before .before in
     let a = s .args in
     let n = c .before .before in
-    omega (arith, place-fits (a .readings) (a .controls) (lent 0 (a .input .now) (a .controllable .now) (a .latch .now) (a .next .now) (a .output) (a .gate .now) (a .left .now) (a .right .now)) (ranksIn (a .ranks .now)) (a .k) (a .kept .now) (a .led .now) (s .pre .1) (a .state) (c .before .loop .r) (n .fewer .result) (s .pre .0) (n .fewer .ensures) (c .loop-test .taken))
+    omega (arith, place-fits (a .readings) (a .controls) (lent 0 (a .input .now) (a .controllable .now) (a .latch .now) (a .next .now) (a .output) (a .gate .now) (a .left .now) (a .right .now)) (ranksIn (a .ranks .now)) (a .k) (a .looked .now) (a .slots .now) (s .pre .1) (a .state) (c .before .loop .r) (n .fewer .result) (s .pre .0) (n .fewer .ensures) (c .loop-test .taken))
 
 look-at-requires : tie.Need-look-at-requires Inv-loop μ-loop
 look-at-requires c κs = let s = c .before .before .before .before .before .before .before .before .before .before .before .before .before .before .before in
     let a = s .args in
     let n = c .before .before .before .before in
     let l = c .before .before .before in
-    (s .pre .0, (omega arith, (ap (λ (m : ℕ). a .state * m + l .loop .r) (n .fewer .ensures), (place-fits (a .readings) (a .controls) (lent 0 (a .input .now) (a .controllable .now) (a .latch .now) (a .next .now) (a .output) (a .gate .now) (a .left .now) (a .right .now)) (ranksIn (a .ranks .now)) (a .k) (a .kept .now) (a .led .now) (s .pre .1) (a .state) (l .loop .r) (n .fewer .result) (s .pre .0) (n .fewer .ensures) (c .before .before .loop-test .taken), l .loop .inv .1))))
+    (s .pre .0, (omega arith, (ap (λ (m : ℕ). a .state * m + l .loop .r) (n .fewer .ensures), (place-fits (a .readings) (a .controls) (lent 0 (a .input .now) (a .controllable .now) (a .latch .now) (a .next .now) (a .output) (a .gate .now) (a .left .now) (a .right .now)) (ranksIn (a .ranks .now)) (a .k) (a .looked .now) (a .slots .now) (s .pre .1) (a .state) (l .loop .r) (n .fewer .result) (s .pre .0) (n .fewer .ensures) (c .before .before .loop-test .taken), l .loop .inv .1))))
 
 same-length : tie.Need-same-length Inv-loop μ-loop
 same-length c = search needs

@@ -1,9 +1,7 @@
 -- `solver::kept::reply_kept` meets its contract: outside the set 0, inside it the least control that keeps.
 use native.Mathlib.Omega.{arith}
 use Rattle.circuit.specs.Stored.{lent}
-use Rattle.game.specs.Rank.{notRanked}
-use Rattle.moves.specs.Played.{played, ranksIn}
-use Rattle.moves.proofs.laws.KeptFrom.{kept-least}
+use Rattle.moves.specs.Played.{played}
 use Rattle.solver.proofs.laws.Over.{no-reply, reply-found}
 use borrow.Author.Needs.{needs}
 use Rattle.solver.proofs.kept.reply_kept.Statement.{statement}
@@ -14,11 +12,11 @@ rank-at-requires c κs = search needs
 
 returns : tie.Need-returns
 returns c = let x = c .before in
-    let a = x .before .before .before .before .before .before .before .before .before .args in
+    let a = x .before .before .before .before .before .before .before .before .before .before .args in
     no-reply (played 0 (a .controls) (lent 0 (a .input .now) (a .controllable .now) (a .latch .now) (a .next .now) (a .output) (a .gate .now) (a .left .now) (a .right .now))) (a .ranks .now) (a .state) (x .rank-at .result) (x .rank-at .ensures) (a .reading) (c .if1 .taken)
 
-look-requires : tie.Need-look-requires
-look-requires c κs = search needs
+least-kept-requires : tie.Need-least-kept-requires
+least-kept-requires c κs = search needs
 
 fewer-requires : tie.Need-fewer-requires
 fewer-requires c κs = search needs
@@ -31,11 +29,11 @@ unfolding played
 returns-2 c = let n = c .before in
     let f = n .before in
     let x = f .before .before in
-    let s = x .before .before .before .before .before .before .before .before .before in
+    let s = x .before .before .before .before .before .before .before .before .before .before in
     let a = s .args in
-    reply-found (played 0 (a .controls) (lent 0 (a .input .now) (a .controllable .now) (a .latch .now) (a .next .now) (a .output) (a .gate .now) (a .left .now) (a .right .now))) (a .ranks .now) (a .state) (x .rank-at .result) (x .rank-at .ensures) (a .k) (a .reading) (f .look .result .control) (n .fewer .result) (c .found .result) (s .pre .0) (f .before .if1 .left) (kept-least (a .controls) (lent 0 (a .input .now) (a .controllable .now) (a .latch .now) (a .next .now) (a .output) (a .gate .now) (a .left .now) (a .right .now)) (notRanked (ranksIn (a .ranks .now)) (a .k)) (a .state) (a .reading) (f .look .result) (f .look .ensures)) (n .fewer .ensures) (c .found .ensures)
+    reply-found (played 0 (a .controls) (lent 0 (a .input .now) (a .controllable .now) (a .latch .now) (a .next .now) (a .output) (a .gate .now) (a .left .now) (a .right .now))) (a .ranks .now) (a .state) (x .rank-at .result) (x .rank-at .ensures) (a .k) (a .reading) (f .least-kept .result) (n .fewer .result) (c .found .result) (s .pre .0) (f .before .if1 .left) (f .least-kept .ensures) (n .fewer .ensures) (c .found .ensures)
 
 pub reply-kept-spec : {M : Type 1} → statement M
 reply-kept-spec =
     tie.close
-    (tie.spec rank-at-requires returns look-requires fewer-requires found-requires returns-2)
+    (tie.spec rank-at-requires returns least-kept-requires fewer-requires found-requires returns-2)

@@ -17,10 +17,10 @@ use Rattle.solver.proofs.rounds.round.Statement.{statement}
 use Rattle.solver.proofs.rounds.round.Tie as tie
 
 abbrev Inv-loop : tie.InvT-loop
-Inv-loop input controllable latch next output gate left right readings controls states k attacks₀ kept₀ led₀ ranks after₀ s₀ attacks kept led after s = (Filled (roundOf (played readings controls (lent 0 input controllable latch next output gate left right)) k (ranksIn ranks)) ranks s after × (s ≤ states) × (length ranks ≡ 2 ^ base .latches)) × Filled (λ j. attackAfter (played readings controls (lent 0 input controllable latch next output gate left right)) k ranks (getD attacks₀ j 0) j) attacks₀ s attacks × AllKept (played readings controls (lent 0 input controllable latch next output gate left right)) (ranksIn ranks) k kept led
+Inv-loop input controllable latch next output gate left right readings controls states k attacks₀ looked₀ slots₀ ranks after₀ s₀ attacks looked slots after s = (Filled (roundOf (played readings controls (lent 0 input controllable latch next output gate left right)) k (ranksIn ranks)) ranks s after × (s ≤ states) × (length ranks ≡ 2 ^ base .latches)) × Filled (λ j. attackAfter (played readings controls (lent 0 input controllable latch next output gate left right)) k ranks (getD attacks₀ j 0) j) attacks₀ s attacks × AllKept (played readings controls (lent 0 input controllable latch next output gate left right)) (ranksIn ranks) k looked slots
 
 abbrev μ-loop : tie.MeasureT-loop
-μ-loop input controllable latch next output gate left right readings controls states k attacks₀ kept₀ led₀ ranks after₀ s₀ attacks kept led after s = states - s
+μ-loop input controllable latch next output gate left right readings controls states k attacks₀ looked₀ slots₀ ranks after₀ s₀ attacks looked slots after s = states - s
 
 loop-holds : tie.Need-loop-holds Inv-loop μ-loop
 loop-holds c = let s = c .before .before .before .before .before .before .before .before .before .before in ((filled-start _ _, omega arith, search needs), filled-start _ _, s .pre .1 .1 .1)

@@ -9,8 +9,9 @@ use Rattle.circuit.specs.Stored.{lent}
 use Rattle.moves.specs.Played.{played, ranksIn}
 use Rattle.solver.specs.AllKept.{AllKept}
 use Rattle.solver.specs.Fair.{Fair}
+use Rattle.solver.specs.Window.{window}
 use Rattle.solver.proofs.laws.Attacks.{AttacksAre, attacks-start, attacks-next, attacks-same, attacks-end}
-use Rattle.solver.proofs.laws.Kept.{kept-start, kept-next}
+use Rattle.solver.proofs.laws.Kept.{next-low, kept-start, kept-next}
 use Rattle.solver.proofs.laws.RankTable.{Ranked, rounds-start, rounds-next, rounds-stop, rounds-end, ranked-long, round-long, ranks-most, unchanged-same}
 use Rattle.solver.proofs.laws.Solved.{lent-fair}
 use borrow.Author.Needs.{needs}
@@ -18,10 +19,10 @@ use Rattle.solver.proofs.rounds.rounds.Statement.{statement}
 use Rattle.solver.proofs.rounds.rounds.Tie as tie
 
 abbrev Inv-loop : tie.InvT-loop
-Inv-loop input controllable latch next output gate left right readings controls states kept₀ led₀ attacks₀ ranks₀ k₀ kept led attacks ranks k = Ranked (played readings controls (lent 0 input controllable latch next output gate left right)) states k ranks × AttacksAre (played readings controls (lent 0 input controllable latch next output gate left right)) ranks attacks × AllKept (played readings controls (lent 0 input controllable latch next output gate left right)) (ranksIn ranks) k kept led
+Inv-loop input controllable latch next output gate left right readings controls states looked₀ slots₀ attacks₀ ranks₀ k₀ looked slots attacks ranks k = Ranked (played readings controls (lent 0 input controllable latch next output gate left right)) states k ranks × AttacksAre (played readings controls (lent 0 input controllable latch next output gate left right)) ranks attacks × AllKept (played readings controls (lent 0 input controllable latch next output gate left right)) (ranksIn ranks) k looked slots
 
 abbrev μ-loop : tie.MeasureT-loop
-μ-loop input controllable latch next output gate left right readings controls states kept₀ led₀ attacks₀ ranks₀ k₀ kept led attacks ranks k = states - k
+μ-loop input controllable latch next output gate left right readings controls states looked₀ slots₀ attacks₀ ranks₀ k₀ looked slots attacks ranks k = states - k
 
 fair : (s : tie.Start Inv-loop μ-loop) → Fair (played (s .args .readings) (s .args .controls) (lent 0 (s .args .input .now) (s .args .controllable .now) (s .args .latch .now) (s .args .next .now) (s .args .output) (s .args .gate .now) (s .args .left .now) (s .args .right .now))) (s .args .states)
 fair s = let a = s .args in lent-fair 0 (a .input .now) (a .controllable .now) (a .latch .now) (a .next .now) (a .output) (a .gate .now) (a .left .now) (a .right .now) (a .readings) (a .controls) (a .states) (s .pre .1 .0) (s .pre .1 .1)
@@ -30,11 +31,11 @@ few-readings : (s : tie.Start Inv-loop μ-loop) → (played (s .args .readings) 
 unfolding played
 few-readings s = omega arith
 
-none-kept-requires : tie.Need-none-kept-requires Inv-loop μ-loop
-none-kept-requires c κs = search needs
+none-looked-requires : tie.Need-none-looked-requires Inv-loop μ-loop
+none-looked-requires c κs = search needs
 
-nowhere-requires : tie.Need-nowhere-requires Inv-loop μ-loop
-nowhere-requires c κs = search needs
+none-led-requires : tie.Need-none-led-requires Inv-loop μ-loop
+none-led-requires c κs = search needs
 
 no-attacks-requires : tie.Need-no-attacks-requires Inv-loop μ-loop
 no-attacks-requires c κs = search needs
@@ -45,7 +46,7 @@ zeros-requires c κs = search needs
 loop-holds : tie.Need-loop-holds Inv-loop μ-loop
 loop-holds c = let s = c .before .before .before .before .before .before .before .before .before .before .before in
     let f = fair s in
-    (rounds-start _ _ _ (c .zeros .ensures), attacks-start _ _ _ (c .zeros .ensures) (c .before .no-attacks .ensures), kept-start _ _ _ _ _ (f .few) (few-readings s) (c .before .before .before .none-kept .ensures) (c .before .before .nowhere .ensures))
+    (rounds-start _ _ _ (c .zeros .ensures), attacks-start _ _ _ (c .zeros .ensures) (c .before .no-attacks .ensures), kept-start _ _ _ _ _ (next-low _ _ _ (f .few)) (f .few) (few-readings s) (c .before .before .before .none-looked .ensures) (c .before .before .none-led .ensures))
 
 cast-round : tie.Need-cast-round Inv-loop μ-loop
 cast-round c = let f = fair (c .before .before .before .before .before .before .before .before .before .before .before .before .before) in omega (arith, c .before .loop .inv .0 .within, f .few, f .all)
@@ -54,10 +55,10 @@ slice-aggregate-round : tie.Need-slice-aggregate-round Inv-loop μ-loop
 slice-aggregate-round c = let long : length (c .before .before .loop .attacks) ≡ 2 ^ base .latches = c .before .before .loop .inv .1 .long in search needs
 
 slice-aggregate-round-2 : tie.Need-slice-aggregate-round-2 Inv-loop μ-loop
-slice-aggregate-round-2 c = let long : length (c .before .before .before .loop .kept) ≡ 2 ^ base .latches * 2 ^ base .uncontrollable = c .before .before .before .loop .inv .2 .kept-long in search needs
+slice-aggregate-round-2 c = let long : length (c .before .before .before .loop .looked) ≡ 2 ^ base .latches * 2 ^ base .uncontrollable = c .before .before .before .loop .inv .2 .looked-long in search needs
 
 slice-aggregate-round-3 : tie.Need-slice-aggregate-round-3 Inv-loop μ-loop
-slice-aggregate-round-3 c = let long : length (c .before .before .before .before .loop .led) ≡ 2 ^ base .latches * 2 ^ base .uncontrollable = c .before .before .before .before .loop .inv .2 .led-long in search needs
+slice-aggregate-round-3 c = let long : length (c .before .before .before .before .loop .slots) ≡ 2 ^ base .latches * 2 ^ base .uncontrollable * window = c .before .before .before .before .loop .inv .2 .slots-long in search needs
 
 round-requires : tie.Need-round-requires Inv-loop μ-loop
 round-requires c κs = let f = fair (c .before .before .before .before .before .before .before .before .before .before .before .before .before .before .before .before) in
@@ -82,12 +83,12 @@ cast-solved c = let f = fair (c .before .before .before .before .before .before 
 
 slice-aggregate-solved : tie.Need-slice-aggregate-solved Inv-loop μ-loop
 slice-aggregate-solved c = let r = c .before .before .before .before .before .before .before .before .round in
-    let long = r .ensures .2 .kept-long in
+    let long = r .ensures .2 .looked-long in
     search needs
 
 slice-aggregate-solved-2 : tie.Need-slice-aggregate-solved-2 Inv-loop μ-loop
 slice-aggregate-solved-2 c = let r = c .before .before .before .before .before .before .before .before .before .round in
-    let long = r .ensures .2 .led-long in
+    let long = r .ensures .2 .slots-long in
     search needs
 
 solved-requires : tie.Need-solved-requires Inv-loop μ-loop
@@ -120,10 +121,10 @@ cast-solved-2 : tie.Need-cast-solved-2 Inv-loop μ-loop
 cast-solved-2 c = let f = fair (c .before .before .before .before .before .before .before .before .before .before .before .before .before) in omega (arith, c .before .loop .inv .0 .within, f .few, f .all)
 
 slice-aggregate-solved-3 : tie.Need-slice-aggregate-solved-3 Inv-loop μ-loop
-slice-aggregate-solved-3 c = let long : length (c .before .before .loop .kept) ≡ 2 ^ base .latches * 2 ^ base .uncontrollable = c .before .before .loop .inv .2 .kept-long in search needs
+slice-aggregate-solved-3 c = let long : length (c .before .before .loop .looked) ≡ 2 ^ base .latches * 2 ^ base .uncontrollable = c .before .before .loop .inv .2 .looked-long in search needs
 
 slice-aggregate-solved-4 : tie.Need-slice-aggregate-solved-4 Inv-loop μ-loop
-slice-aggregate-solved-4 c = let long : length (c .before .before .before .loop .led) ≡ 2 ^ base .latches * 2 ^ base .uncontrollable = c .before .before .before .loop .inv .2 .led-long in search needs
+slice-aggregate-solved-4 c = let long : length (c .before .before .before .loop .slots) ≡ 2 ^ base .latches * 2 ^ base .uncontrollable * window = c .before .before .before .loop .inv .2 .slots-long in search needs
 
 solved-requires-2 : tie.Need-solved-requires-2 Inv-loop μ-loop
 solved-requires-2 c κs = let s = c .before .before .before .before .before .before .before .before .before .before .before .before .before .before .before in
@@ -141,8 +142,8 @@ rounds-spec =
     (tie.spec
     Inv-loop
     μ-loop
-    none-kept-requires
-    nowhere-requires
+    none-looked-requires
+    none-led-requires
     no-attacks-requires
     zeros-requires
     loop-holds

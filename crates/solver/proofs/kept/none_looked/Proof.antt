@@ -1,0 +1,12 @@
+-- `solver::kept::none_looked` meets its contract: the same number everywhere.
+use Prim.Native.Nat.{_*_, _^_}
+use Rattle.below.proofs.laws.Filled.{replicate-table}
+use Rattle.circuit.specs.Limits.{base}
+use Rattle.solver.proofs.kept.none_looked.Statement.{statement}
+use Rattle.solver.proofs.kept.none_looked.Tie as tie
+
+returns : tie.Need-returns
+returns c = replicate-table (2 ^ base .latches * 2 ^ base .uncontrollable) 0
+
+pub none-looked-spec : {M : Type 1} → statement M
+none-looked-spec = tie.close (tie.spec returns)
