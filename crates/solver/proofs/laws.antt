@@ -2,6 +2,7 @@ pub mod RankTable
 pub mod RegionByte
 pub mod Blocks
 pub mod Window
+pub mod Slots
 pub mod Kept
 pub mod Over
 pub mod Solved

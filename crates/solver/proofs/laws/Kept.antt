@@ -32,6 +32,7 @@ use Rattle.step.proofs.laws.Step.{next-below}
 use Rattle.solver.specs.AllKept.{KeptAt, AllKept}
 use Rattle.solver.specs.RankTable.{roundTable}
 use Rattle.solver.specs.Window.{window, nowhere, leads, leadsIn, slotKeeps, slotsAt, putSlots}
+use Rattle.solver.proofs.laws.Slots.{slots-put, slots-other, slots-length}
 use Rattle.solver.proofs.laws.Window.{slot-window, slot-there, slot-found, slot-on, slot-next, block-leads}
 
 fails-again : (g : Game) (set other : ℕ → Bool) (s r j : ℕ) → ((t : ℕ) → set t ≡ false → other t ≡ false) → keeps g set s r j ≡ false → keeps g other s r j ≡ false
@@ -54,28 +55,6 @@ readings-not-read readings controls c ranks k s r windows slot kept = record { l
 readings-read : (readings controls : ℕ) (c : Circuit) (ranks : ℕ → ℕ) (k s r windows : ℕ) (slot : ℕ → ℕ) → KeptAt (played 0 controls c) ranks k s r windows slot → KeptAt (played readings controls c) ranks k s r windows slot
 unfolding keeps played leads
 readings-read readings controls c ranks k s r windows slot kept = record { low = kept .low; few = kept .few; failed = kept .failed; seen = kept .seen; unseen = kept .unseen }
-
--- slots put at one place are there, and those of other places stay
-slots-put : (slots : List ℕ) (i : ℕ) (f : ℕ → ℕ) (j : ℕ) → i * window + window ≤ length slots → j < window → slotsAt (putSlots (i * window) f slots) i j ≡ f j
-unfolding slotsAt putSlots
-slots-put slots i f j long h = getD-table _ (length slots) (i * window + j) 0 (omega arith) ∙ rw (lt-ltb (i * window + j) (i * window + window) (omega arith), le-ltb (i * window + j) (i * window) (omega arith)) (ap f same)
-  where
-    same : i * window + j - i * window ≡ j
-    same = omega arith
-
-slots-other : (slots : List ℕ) (i o : ℕ) (f : ℕ → ℕ) (j : ℕ) → (o ≡ i → ⊥) → j < window → slotsAt (putSlots (i * window) f slots) o j ≡ slotsAt slots o j
-unfolding slotsAt putSlots
-slots-other slots i o f j d h = elim (decLt (o * window + j) (length slots)) [ yes l ↦ getD-table _ (length slots) (o * window + j) 0 l ∙ there | no l ↦ List·getD-eq-default (table _ (length slots)) 0 {n = o * window + j} (omega (arith, length-table (λ x. cond (ltb x (i * window + window)) (cond (ltb x (i * window)) (getD slots x 0) (f (x - i * window))) (getD slots x 0)) (length slots))) ∙ sym (List·getD-eq-default slots 0 {n = o * window + j} (omega arith)) ]
-  where
-    x : ℕ
-    x = o * window + j
-
-    there : cond (ltb x (i * window + window)) (cond (ltb x (i * window)) (getD slots x 0) (f (x - i * window))) (getD slots x 0) ≡ getD slots x 0
-    there = elim (decLt o i) [ yes l ↦ rw (lt-ltb x (i * window + window) (omega arith), lt-ltb x (i * window) (omega arith)) refl | no l ↦ rw (le-ltb x (i * window + window) (omega arith)) refl ]
-
-slots-length : (slots : List ℕ) (at : ℕ) (f : ℕ → ℕ) → length (putSlots at f slots) ≡ length slots
-unfolding putSlots
-slots-length slots at f = length-table _ (length slots)
 
 module _ (g : Game) (ranks : ℕ → ℕ) (k : ℕ) (looked slots : List ℕ) (all : AllKept g ranks k looked slots) where
   -- the place of a state and a reading lies in the lists

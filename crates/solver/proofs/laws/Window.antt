@@ -7,11 +7,9 @@ use mathlib.Core.Bool.{Bool, true, false, cond, not, _&&_, true≢false}
 use mathlib.Core.List.{List}
 use mathlib.Core.Path.{_≡_, refl, sym, ap, _∙_, subst}
 use lib.Dec.{ltb}
-use lib.ListN.{length, getD}
 use borrow.Author.Tests.{lt-ltb, le-ltb}
 use Rattle.below.specs.Least.{least}
 use Rattle.below.specs.LeastFrom.{leastFrom}
-use Rattle.below.proofs.laws.Filled.{Filled}
 use Rattle.below.proofs.laws.Least.{least-le, least-holds, least-before, least-is, least-none}
 use Rattle.below.proofs.laws.LeastFrom.{from-le, from-holds, from-start, from-before}
 use Rattle.circuit.specs.Limits.{base}
@@ -141,13 +139,3 @@ block-leads g c steps s r i j n t block count h = (λ x. cond (within x && not (
 
     next : laneNumber (t .next) (i / window * window % width + j) ≡ nextOf c s r (window * (i / window) + j)
     next = block .nexts (i / window * window % width + j) (omega arith) ∙ ap (nextOf c s r) there
-
--- filling a window's slots begins at its first
-pub slots-start : (at i : ℕ) (f : ℕ → ℕ) (slots : List ℕ) → i ≡ at → Filled (λ x. cond (ltb x at) (getD slots x 0) (f (x - at))) slots i slots
-slots-start at i f slots e = record { long = refl; front = λ x h. sym (ap (λ (b : Bool). cond b (getD slots x 0) (f (x - at))) (lt-ltb x at (omega arith))); rest = λ x h. refl }
-
-pub slot-at : (at j : ℕ) (f : ℕ → ℕ) (slots : List ℕ) → f j ≡ cond (ltb (at + j) at) (getD slots (at + j) 0) (f (at + j - at))
-slot-at at j f slots = sym (ap (λ (b : Bool). cond b (getD slots (at + j) 0) (f (at + j - at))) (le-ltb (at + j) at (omega arith)) ∙ ap f same)
-  where
-    same : at + j - at ≡ j
-    same = omega arith

@@ -1,13 +1,14 @@
 -- `solver::kept::look_at` meets its contract: a slot keeps; or the search behind the window finds none; or what it finds can be kept.
-use Prim.Native.Nat.{ℕ, _<_}
+use Prim.Native.Nat.{ℕ, _+_, _/_, _<_}
 use native.Mathlib.Omega.{arith}
 use mathlib.Core.List.{List}
 use mathlib.Core.Path.{refl, sym, _∙_, subst}
+use lib.ListN.{set}
 use borrow.Author.Tests.{le-leb, lt-leb}
 use Rattle.circuit.specs.Stored.{lent}
 use Rattle.moves.specs.Played.{played, ranksIn}
 use Rattle.solver.specs.AllKept.{AllKept}
-use Rattle.solver.specs.Window.{slotsAt}
+use Rattle.solver.specs.Window.{window, slotsAt}
 use Rattle.solver.proofs.laws.Kept.{look-start, look-still, look-defeats, look-kept}
 use borrow.Author.Needs.{needs}
 use Rattle.solver.proofs.kept.look_at.Statement.{statement}
@@ -103,7 +104,7 @@ returns-3 c = let n = c .before .before .before .before .before .before .before 
     let j = f .before .before .before in
     let s = j .before .before .before .before .before .before .before .before .before .before .before .before in
     let a = s .args in
-    (sym (lt-leb (n .fewer .result) _ (c .before .before .before .before .before .before .before .before .if2 .left)) ∙ look-defeats (a .readings) (a .controls) (lent 0 (a .input .now) (a .controllable .now) (a .latch .now) (a .next .now) (a .output) (a .gate .now) (a .left .now) (a .right .now)) (ranksIn (a .ranks .now)) (a .k) (a .looked .now) (a .slots .now) (s .pre .1 .1 .1 .1) (a .state) (a .reading) (a .i) (s .pre .0) (s .pre .1 .0) (s .pre .1 .1 .0) (j .keeping-slot .result) (n .fewer .result) (j .keeping-slot .ensures) (n .fewer .ensures) (f .before .before .if1 .left) (f .keeping-from .result .control) (f .keeping-from .ensures .0), subst (λ (l : List ℕ). AllKept (played (a .readings) (a .controls) (lent 0 (a .input .now) (a .controllable .now) (a .latch .now) (a .next .now) (a .output) (a .gate .now) (a .left .now) (a .right .now))) (ranksIn (a .ranks .now)) (a .k) _ l) (sym (c .before .before .put-window .ensures)) (look-kept (a .readings) (a .controls) (lent 0 (a .input .now) (a .controllable .now) (a .latch .now) (a .next .now) (a .output) (a .gate .now) (a .left .now) (a .right .now)) (ranksIn (a .ranks .now)) (a .k) (a .looked .now) (a .slots .now) (s .pre .1 .1 .1 .1) (a .state) (a .reading) (a .i) (s .pre .0) (s .pre .1 .0) (s .pre .1 .1 .0) (j .keeping-slot .result) (n .fewer .result) (j .keeping-slot .ensures) (n .fewer .ensures) (f .before .before .if1 .left) (f .keeping-from .result .control) (f .keeping-from .ensures .0) (f .keeping-from .result .steps) (c .before .before .before .before .before .before .before .before .if2 .left) (f .keeping-from .ensures .1 (subst (λ (m : ℕ). f .keeping-from .result .control < m) (n .fewer .ensures) (c .before .before .before .before .before .before .before .before .if2 .left)))))
+    (sym (lt-leb (n .fewer .result) _ (c .before .before .before .before .before .before .before .before .if2 .left)) ∙ look-defeats (a .readings) (a .controls) (lent 0 (a .input .now) (a .controllable .now) (a .latch .now) (a .next .now) (a .output) (a .gate .now) (a .left .now) (a .right .now)) (ranksIn (a .ranks .now)) (a .k) (a .looked .now) (a .slots .now) (s .pre .1 .1 .1 .1) (a .state) (a .reading) (a .i) (s .pre .0) (s .pre .1 .0) (s .pre .1 .1 .0) (j .keeping-slot .result) (n .fewer .result) (j .keeping-slot .ensures) (n .fewer .ensures) (f .before .before .if1 .left) (f .keeping-from .result .control) (f .keeping-from .ensures .0), subst (λ (l : List ℕ). AllKept (played (a .readings) (a .controls) (lent 0 (a .input .now) (a .controllable .now) (a .latch .now) (a .next .now) (a .output) (a .gate .now) (a .left .now) (a .right .now))) (ranksIn (a .ranks .now)) (a .k) (set (a .looked .now) (a .i) (f .keeping-from .result .control / window + 1)) l) (sym (c .before .before .put-window .ensures)) (look-kept (a .readings) (a .controls) (lent 0 (a .input .now) (a .controllable .now) (a .latch .now) (a .next .now) (a .output) (a .gate .now) (a .left .now) (a .right .now)) (ranksIn (a .ranks .now)) (a .k) (a .looked .now) (a .slots .now) (s .pre .1 .1 .1 .1) (a .state) (a .reading) (a .i) (s .pre .0) (s .pre .1 .0) (s .pre .1 .1 .0) (j .keeping-slot .result) (n .fewer .result) (j .keeping-slot .ensures) (n .fewer .ensures) (f .before .before .if1 .left) (f .keeping-from .result .control) (f .keeping-from .ensures .0) (f .keeping-from .result .steps) (c .before .before .before .before .before .before .before .before .if2 .left) (f .keeping-from .ensures .1 (subst (λ (m : ℕ). f .keeping-from .result .control < m) (n .fewer .ensures) (c .before .before .before .before .before .before .before .before .if2 .left)))))
 
 pub look-at-spec : {M : Type 1} → statement M
 look-at-spec =

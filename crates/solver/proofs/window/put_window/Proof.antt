@@ -3,12 +3,11 @@ use Prim.Native.Nat.{ℕ, _+_, _-_, _≤_}
 use native.Mathlib.Omega.{arith}
 use mathlib.Core.Bool.{cond}
 use mathlib.Core.List.{List}
-use mathlib.Core.Path.{_≡_, _∙_, subst}
 use lib.Dec.{ltb}
 use lib.ListN.{getD}
-use Rattle.below.proofs.laws.Filled.{Filled, filled-next, filled-end}
+use Rattle.below.proofs.laws.Filled.{Filled, filled-end}
 use Rattle.solver.specs.Window.{window, leadsIn, putSlots}
-use Rattle.solver.proofs.laws.Window.{slots-start, slot-at}
+use Rattle.solver.proofs.laws.Slots.{slots-start, slots-next}
 use borrow.Author.Needs.{needs}
 use Rattle.solver.proofs.window.put_window.Statement.{statement}
 use Rattle.solver.proofs.window.put_window.Tie as tie
@@ -21,9 +20,6 @@ Inv-loop slots₀ at error next lane there j₀ slots j = Filled (λ x. cond (lt
 
 abbrev μ-loop : tie.MeasureT-loop
 μ-loop slots₀ at error next lane there j₀ slots j = window - j
-
-add-assoc-of : (a j : ℕ) → a + j + 1 ≡ a + (j + 1)
-add-assoc-of a j = omega arith
 
 loop-holds : tie.Need-loop-holds Inv-loop μ-loop
 loop-holds c = let a = c .before .before .args in (slots-start (a .at) _ (led (a .error) (a .next .now) (a .lane) (a .there)) (a .slots .now) (omega arith), omega arith)
@@ -52,7 +48,7 @@ loop-less c = search needs
 loop-again : tie.Need-loop-again Inv-loop μ-loop
 loop-again c = let l = c .before .before in
     let a = l .before .before .before .args in
-    (subst (λ (i : ℕ). Filled (λ x. cond (ltb x (a .at)) (getD (a .slots .now) x 0) (led (a .error) (a .next .now) (a .lane) (a .there) (x - a .at))) (a .slots .now) i _) (add-assoc-of (a .at) (l .loop .j)) (filled-next _ _ (a .at + l .loop .j) (c .leads-in .result) (l .loop .slots) (l .loop .inv .0) (omega arith) (c .leads-in .ensures ∙ slot-at (a .at) (l .loop .j) (led (a .error) (a .next .now) (a .lane) (a .there)) (a .slots .now))), omega arith)
+    (slots-next (a .at) (l .loop .j) (c .leads-in .result) (led (a .error) (a .next .now) (a .lane) (a .there)) (a .slots .now) (l .loop .slots) (l .loop .inv .0) (omega arith) (c .leads-in .ensures), omega arith)
 
 same-length : tie.Need-same-length Inv-loop μ-loop
 same-length c = search needs
