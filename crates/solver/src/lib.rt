@@ -35,11 +35,11 @@ pub struct Solution {
     pub attacks: [u8; Circuit::STATES],
 }
 
-// The ranks of a circuit's states; 0 behind the last state.
-pub fn ranks(c: Circuit) -> [u16; Circuit::STATES]
-    ensures { λ r. ⌜ r ≡ rankTable (circuitGame (solvable (meant c))) ⌝ }
+// Ranks, replies and attacks of a circuit. One with too many inputs counts as the empty circuit.
+pub fn solve(c: Circuit) -> Solution
+    ensures { λ r. ⌜ r ≡ solutionOf (circuitGame (solvable (meant c))) ⌝ }
 {
-    ranks_counted(
+    solve_counted(
         c.inputs,
         &c.input,
         &c.controllable,
@@ -54,29 +54,20 @@ pub fn ranks(c: Circuit) -> [u16; Circuit::STATES]
     )
 }
 
+// The ranks of a circuit's states; 0 behind the last state.
+pub fn ranks(c: Circuit) -> [u16; Circuit::STATES]
+    ensures { λ r. ⌜ r ≡ rankTable (circuitGame (solvable (meant c))) ⌝ }
+{
+    let solved = solve(c);
+    solved.ranks
+}
+
 // The verdict.
 pub fn realizable(c: Circuit) -> bool
     ensures { λ r. ⌜ r ≡ isRealizable (solvable (meant c)) ⌝ }
 {
     let ranked = ranks(c);
     ranked[0] == 0
-}
-
-// The ranks of the states of a circuit over lent arrays; 0 behind the last state. A circuit with too many inputs counts as the empty one.
-pub fn ranks_lent<'a>(
-    input: &'a [u16],
-    controllable: &'a [u8],
-    latch: &'a [u16],
-    next: &'a [u16],
-    output: u16,
-    gate: &'a [u16],
-    left: &'a [u16],
-    right: &'a [u16],
-) -> [u16; Circuit::STATES]
-    ensures { λ r. ⌜ r ≡ rankTable (circuitGame (solvable (lent 0 (now (input .entry)) (now (controllable .entry)) (now (latch .entry)) (now (next .entry)) output (now (gate .entry)) (now (left .entry)) (now (right .entry))))) ⌝ }
-{
-    let solved = solve_lent(input, controllable, latch, next, output, gate, left, right);
-    solved.ranks
 }
 
 // Ranks, replies and attacks of a circuit over lent arrays. A circuit with too many inputs counts as the empty one.
@@ -214,7 +205,8 @@ fn found(i: usize, n: usize) -> u8
     if i < n { i as u8 } else { 0 }
 }
 
-fn ranks_counted<'a>(
+// Lends on what lies below the counts.
+fn solve_counted<'a>(
     inputs: usize,
     input: &'a [u16],
     controllable: &'a [u8],
@@ -226,13 +218,13 @@ fn ranks_counted<'a>(
     gate: &'a [u16],
     left: &'a [u16],
     right: &'a [u16],
-) -> [u16; Circuit::STATES]
-    ensures { λ r. ⌜ r ≡ rankTable (circuitGame (solvable (lent 0 (take inputs (now (input .entry))) (now (controllable .entry)) (take latches (now (latch .entry))) (now (next .entry)) output (take gates (now (gate .entry))) (now (left .entry)) (now (right .entry))))) ⌝ }
+) -> Solution
+    ensures { λ r. ⌜ r ≡ solutionOf (circuitGame (solvable (lent 0 (take inputs (now (input .entry))) (now (controllable .entry)) (take latches (now (latch .entry))) (now (next .entry)) output (take gates (now (gate .entry))) (now (left .entry)) (now (right .entry))))) ⌝ }
 {
     let i = below::fewer(inputs, input.len());
     let l = below::fewer(latches, latch.len());
     let g = below::fewer(gates, gate.len());
-    ranks_lent(
+    solve_lent(
         &input[..i],
         controllable,
         &latch[..l],
