@@ -1,18 +1,14 @@
-// What can be done at a state (01, "The game"): the least control that keeps, and the least reading that defeats, over lent arrays. The
-// set to keep in is that of the states that aren't of rank 1 to a bound.
+// What can be done at a state (01, "The game"): the least control that keeps, from a number on, over lent arrays. The set to keep in is
+// that of the states that aren't of rank 1 to a bound.
 mod lane;
 
 use circuit::Circuit;
 use lane::keeping_lane;
 use lane::lanes_from;
 use step::Reading;
-ghost use Prim.Native.Nat.{_^_, min};
 ghost use mathlib.Core.Path.{_≡_};
-ghost use Rattle.below.specs.Least.{least};
-ghost use Rattle.circuit.specs.Limits.{base};
 ghost use Rattle.circuit.specs.Stored.{lent};
-ghost use Rattle.game.specs.Keeps.{keeps};
-ghost use Rattle.game.specs.Rank.{notRanked, defeats};
+ghost use Rattle.game.specs.Rank.{notRanked};
 ghost use Rattle.moves.specs.KeptFrom.{keptFrom};
 ghost use Rattle.moves.specs.Played.{played, ranksIn};
 
@@ -20,43 +16,6 @@ ghost use Rattle.moves.specs.Played.{played, ranksIn};
 pub struct Kept {
     pub control: usize,
     pub next: u16,
-}
-
-// The least control that keeps, or as many as there are where none does.
-pub fn least_control<'a>(
-    input: &'a [u16],
-    controllable: &'a [u8],
-    latch: &'a [u16],
-    next: &'a [u16],
-    output: u16,
-    gate: &'a [u16],
-    left: &'a [u16],
-    right: &'a [u16],
-    controls: usize,
-    ranks: &'a [u16],
-    bound: u16,
-    state: u16,
-    reading: u8,
-) -> usize
-    ensures { λ r. ⌜ r ≡ least (keeps (played 0 controls (lent 0 (now (input .entry)) (now (controllable .entry)) (now (latch .entry)) (now (next .entry)) output (now (gate .entry)) (now (left .entry)) (now (right .entry)))) (notRanked (ranksIn (now (ranks .entry))) bound) state reading) (min controls (2 ^ base .controllable)) ⌝ }
-{
-    let kept = least_control_from(
-        input,
-        controllable,
-        latch,
-        next,
-        output,
-        gate,
-        left,
-        right,
-        controls,
-        ranks,
-        bound,
-        state,
-        reading,
-        0,
-    );
-    kept.control
 }
 
 // The least control from a number on that keeps, a block of 64 at a time.
@@ -111,84 +70,6 @@ pub fn least_control_from<'a>(
         control: n,
         next: 0,
     }
-}
-
-// The least reading under which no control keeps, or as many as there are where each has one.
-pub fn least_reading<'a>(
-    input: &'a [u16],
-    controllable: &'a [u8],
-    latch: &'a [u16],
-    next: &'a [u16],
-    output: u16,
-    gate: &'a [u16],
-    left: &'a [u16],
-    right: &'a [u16],
-    readings: usize,
-    controls: usize,
-    ranks: &'a [u16],
-    bound: u16,
-    state: u16,
-) -> usize
-    ensures { λ r. ⌜ r ≡ least (defeats (played readings controls (lent 0 (now (input .entry)) (now (controllable .entry)) (now (latch .entry)) (now (next .entry)) output (now (gate .entry)) (now (left .entry)) (now (right .entry)))) (ranksIn (now (ranks .entry))) bound state) (min readings (2 ^ base .uncontrollable)) ⌝ }
-{
-    let n = below::fewer(readings, Circuit::READINGS);
-    let mut r = 0;
-    while r < n {
-        if defeats_lent(
-            input,
-            controllable,
-            latch,
-            next,
-            output,
-            gate,
-            left,
-            right,
-            controls,
-            ranks,
-            bound,
-            state,
-            r as u8,
-        ) {
-            return r;
-        }
-        r += 1;
-    }
-    n
-}
-
-fn defeats_lent<'a>(
-    input: &'a [u16],
-    controllable: &'a [u8],
-    latch: &'a [u16],
-    next: &'a [u16],
-    output: u16,
-    gate: &'a [u16],
-    left: &'a [u16],
-    right: &'a [u16],
-    controls: usize,
-    ranks: &'a [u16],
-    bound: u16,
-    state: u16,
-    reading: u8,
-) -> bool
-    ensures { λ r. ⌜ r ≡ defeats (played 0 controls (lent 0 (now (input .entry)) (now (controllable .entry)) (now (latch .entry)) (now (next .entry)) output (now (gate .entry)) (now (left .entry)) (now (right .entry)))) (ranksIn (now (ranks .entry))) bound state reading ⌝ }
-{
-    let k = least_control(
-        input,
-        controllable,
-        latch,
-        next,
-        output,
-        gate,
-        left,
-        right,
-        controls,
-        ranks,
-        bound,
-        state,
-        reading,
-    );
-    below::fewer(controls, Circuit::CONTROLS) <= k
 }
 
 // The rank of a state; 0 where the list has none.

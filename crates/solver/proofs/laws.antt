@@ -3,7 +3,7 @@ pub mod RegionByte
 pub mod Kept
 pub mod Over
 pub mod Solved
-pub mod States
+pub mod Counts
 pub mod Solution
 pub mod Attacks
 pub mod Replies

@@ -5,3 +5,4 @@ pub mod AllKept
 pub mod RegionTable
 pub mod Solution
 pub mod AttacksAfter
+pub mod Counts

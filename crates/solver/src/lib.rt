@@ -1,4 +1,5 @@
-// The solver (01, "The game"): ranks by rounds, each worked out from the one before, kept whole; and from ranks the replies and attacks.
+// The solver (01, "The game"): ranks by rounds, each worked out from the one before, kept whole; the replies and attacks beside them.
+pub mod counts;
 mod kept;
 pub mod region;
 mod rounds;
@@ -8,25 +9,16 @@ use kept::no_replies;
 use rounds::no_attacks;
 use rounds::rounds;
 use rounds::zeros;
-ghost use Prim.Native.Nat.{_*_, _^_, _<_, _≤_};
-ghost use mathlib.Core.Bool.{not};
+ghost use Prim.Native.Nat.{_*_, _^_, _≤_};
 ghost use mathlib.Core.Path.{_≡_};
-ghost use lib.Dec.{eqb};
 ghost use lib.ListN.{take};
-ghost use Rattle.below.specs.Least.{any};
 ghost use Rattle.below.specs.Table.{table};
-ghost use Rattle.circuit.specs.Circuit.{latchCount};
 ghost use Rattle.circuit.specs.Limits.{base};
 ghost use Rattle.circuit.specs.Stored.{lent, meant, solvable};
 ghost use Rattle.game.specs.CircuitGame.{circuitGame, isRealizable};
-ghost use Rattle.game.specs.Rank.{round as roundOf};
-ghost use Rattle.moves.specs.Played.{played, ranksIn};
-ghost use Rattle.solver.specs.Over.{found as foundOf, replyOver, attackOver};
+ghost use Rattle.solver.specs.Over.{found as foundOf};
 ghost use Rattle.solver.specs.RankTable.{rankTable};
 ghost use Rattle.solver.specs.Solution.{solutionOf};
-
-// Above every rank: a state of rank 1 to this one is a state of any rank but 0.
-const ANY: u16 = 65535;
 
 // What the solver answers: ranks and attacks of the states, and replies, at index s × 2^U + reading; 0 behind the last.
 pub struct Solution {
@@ -121,83 +113,7 @@ fn nothing() -> Solution
     }
 }
 
-// The least control that keeps in the set of the states of rank 0; 0 outside it, or where there is none.
-pub fn reply_lent<'a>(
-    input: &'a [u16],
-    controllable: &'a [u8],
-    latch: &'a [u16],
-    next: &'a [u16],
-    output: u16,
-    gate: &'a [u16],
-    left: &'a [u16],
-    right: &'a [u16],
-    controls: usize,
-    ranks: &'a [u16],
-    state: u16,
-    reading: u8,
-) -> u8
-    ensures { λ r. ⌜ r ≡ replyOver (played 0 controls (lent 0 (now (input .entry)) (now (controllable .entry)) (now (latch .entry)) (now (next .entry)) output (now (gate .entry)) (now (left .entry)) (now (right .entry)))) (now (ranks .entry)) state reading ⌝ }
-{
-    if 0 < moves::rank_at(ranks, state as usize) {
-        return 0;
-    }
-    let k = moves::least_control(
-        input,
-        controllable,
-        latch,
-        next,
-        output,
-        gate,
-        left,
-        right,
-        controls,
-        ranks,
-        ANY,
-        state,
-        reading,
-    );
-    found(k, below::fewer(controls, Circuit::CONTROLS))
-}
-
-// The least reading that shows the rank of a state; 0 where the rank is 0, or where there is none.
-pub fn attack_lent<'a>(
-    input: &'a [u16],
-    controllable: &'a [u8],
-    latch: &'a [u16],
-    next: &'a [u16],
-    output: u16,
-    gate: &'a [u16],
-    left: &'a [u16],
-    right: &'a [u16],
-    readings: usize,
-    controls: usize,
-    ranks: &'a [u16],
-    state: u16,
-) -> u8
-    ensures { λ r. ⌜ r ≡ attackOver (played readings controls (lent 0 (now (input .entry)) (now (controllable .entry)) (now (latch .entry)) (now (next .entry)) output (now (gate .entry)) (now (left .entry)) (now (right .entry)))) (now (ranks .entry)) state ⌝ }
-{
-    let x = moves::rank_at(ranks, state as usize);
-    if x < 1 {
-        return 0;
-    }
-    let r = moves::least_reading(
-        input,
-        controllable,
-        latch,
-        next,
-        output,
-        gate,
-        left,
-        right,
-        readings,
-        controls,
-        ranks,
-        x - 1,
-        state,
-    );
-    found(r, below::fewer(readings, Circuit::READINGS))
-}
-
+// What a search below n found, or 0.
 fn found(i: usize, n: usize) -> u8
     requires { ⌜ n ≤ 2 ^ base .controllable ⌝ }
     ensures { λ r. ⌜ r ≡ foundOf i n ⌝ }
