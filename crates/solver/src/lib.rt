@@ -63,7 +63,7 @@ pub fn realizable(c: Circuit) -> bool
 }
 
 // Ranks, replies and attacks of a circuit over lent arrays. A circuit with too many inputs counts as the empty one.
-pub fn solve_lent<'a>(
+fn solve_lent<'a>(
     input: &'a [u16],
     controllable: &'a [u8],
     latch: &'a [u16],

@@ -21,10 +21,6 @@ module _ (g : Game) where
   unfolding replyTable
   replies-long = length-table _ (2 ^ base .latches * 2 ^ base .uncontrollable)
 
-  pub attacks-long : length (attackTable g) ≡ 2 ^ base .latches
-  unfolding attackTable
-  attacks-long = length-table _ (2 ^ base .latches)
-
   pub replies-front : g .states * g .readings ≤ 2 ^ base .latches * 2 ^ base .uncontrollable → take (g .states * g .readings) (replyTable g) ≡ table (λ i. reply g (i / g .readings) (i % g .readings)) (g .states * g .readings)
   unfolding replyTable
   replies-front few =
