@@ -1,3 +1,4 @@
+pub mod Played
 pub mod RankTable
 pub mod RegionByte
 pub mod Blocks
@@ -6,7 +7,7 @@ pub mod Slots
 pub mod Kept
 pub mod Over
 pub mod Solved
-pub mod States
+pub mod Counts
 pub mod Solution
 pub mod Attacks
 pub mod Replies

@@ -1,3 +1,4 @@
+pub mod Played
 pub mod RankTable
 pub mod Fair
 pub mod Over
@@ -6,3 +7,4 @@ pub mod AllKept
 pub mod RegionTable
 pub mod Solution
 pub mod AttacksAfter
+pub mod Counts

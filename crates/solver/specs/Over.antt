@@ -1,14 +1,13 @@
--- Reply and attack over any list of ranks, whoever made it (01, "The game"): the least control that keeps in the set of the states of
--- rank 0, and the least reading that shows a rank; 0 where there is none. Assumes nothing.
-use Prim.Native.Nat.{ℕ, _-_}
+-- The reply over any list of ranks, whoever made it (01, "The game"): the least control that keeps in the set of the states of rank 0; 0
+-- where there is none. Assumes nothing.
+use Prim.Native.Nat.{ℕ}
 use mathlib.Core.Bool.{Bool, cond, not}
 use mathlib.Core.List.{List}
 use lib.Dec.{ltb}
 use Rattle.below.specs.Least.{least}
 use Rattle.game.specs.Game.{Game}
 use Rattle.game.specs.Keeps.{keeps}
-use Rattle.game.specs.Rank.{defeats}
-use Rattle.moves.specs.Played.{ranksIn}
+use Rattle.solver.specs.Played.{ranksIn}
 
 -- the set of the states of rank 0
 unfoldable pub rankZero : List ℕ → (state : ℕ) → Bool
@@ -20,7 +19,3 @@ found i n = cond (ltb i n) i 0
 
 unfoldable pub replyOver : Game → List ℕ → (state reading : ℕ) → ℕ
 replyOver g ranks s r = cond (rankZero ranks s) (found (least (keeps g (rankZero ranks) s r) (g .controls)) (g .controls)) 0
-
-unfoldable pub attackOver : Game → List ℕ → (state : ℕ) → ℕ
-attackOver g ranks s =
-    cond (rankZero ranks s) 0 (found (least (defeats g (ranksIn ranks) (ranksIn ranks s - 1) s) (g .readings)) (g .readings))

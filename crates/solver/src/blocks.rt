@@ -1,4 +1,5 @@
 // The search for a control that keeps, a block of 64 at a time (01, "The game"): no error, and a next state in the set.
+use crate::rank_list::is_unranked;
 use circuit::Circuit;
 use lanes::Lanes;
 use step::Reading;
@@ -12,7 +13,7 @@ ghost use Rattle.game.specs.Keeps.{keeps};
 ghost use Rattle.game.specs.Rank.{notRanked};
 ghost use Rattle.lanes.specs.Block.{BlockOf};
 ghost use Rattle.lanes.specs.Lane.{width};
-ghost use Rattle.moves.specs.Played.{played, ranksIn};
+ghost use Rattle.solver.specs.Played.{played, ranksIn};
 
 // A control that keeps and the steps of its block; or as many as there are controls.
 pub(crate) struct Found {
@@ -106,7 +107,7 @@ fn keeps_in<'a>(error: u64, next: &'a [u64], ranks: &'a [u16], bound: u16, j: us
     if lanes::is_lane(error, j) {
         false
     } else {
-        moves::is_unranked(ranks, bound, lanes::lane_number(next, j) as usize)
+        is_unranked(ranks, bound, lanes::lane_number(next, j) as usize)
     }
 }
 

@@ -2,6 +2,7 @@
 // control of that window leads. Ranks only grow, so a control that stopped keeping never keeps again, and a search goes on behind the
 // windows looked at.
 use crate::blocks::keeping_from;
+use crate::rank_list::rank_at;
 use crate::window::NOWHERE;
 use crate::window::WINDOW;
 use crate::window::keeping_slot;
@@ -18,7 +19,7 @@ ghost use Rattle.circuit.specs.Limits.{base};
 ghost use Rattle.circuit.specs.Stored.{lent};
 ghost use Rattle.game.specs.Keeps.{keeps};
 ghost use Rattle.game.specs.Rank.{notRanked, defeats};
-ghost use Rattle.moves.specs.Played.{played, ranksIn};
+ghost use Rattle.solver.specs.Played.{played, ranksIn};
 ghost use Rattle.solver.specs.AllKept.{KeptAt, AllKept};
 ghost use Rattle.solver.specs.Over.{replyOver};
 ghost use Rattle.solver.specs.Window.{window, nowhere, slotsAt};
@@ -172,7 +173,7 @@ fn reply_kept<'a>(
     requires { ⌜ KeptAt (played 0 controls (lent 0 (now input) (now controllable) (now latch) (now next) output (now gate) (now left) (now right))) (ranksIn (now ranks)) k state reading windows (slotsAt (now slots) i) ⌝ }
     ensures { λ r. ⌜ r ≡ replyOver (played 0 controls (lent 0 (now (input .entry)) (now (controllable .entry)) (now (latch .entry)) (now (next .entry)) output (now (gate .entry)) (now (left .entry)) (now (right .entry)))) (now (ranks .entry)) state reading ⌝ }
 {
-    if 0 < moves::rank_at(ranks, state as usize) {
+    if 0 < rank_at(ranks, state as usize) {
         return 0;
     }
     let least = least_kept(

@@ -1,17 +1,17 @@
 // The region as bytes (01, "The certificate", kind 2): state s at bit s mod 8 of byte s div 8; a bit that stands for no state is 0.
+use crate::counts::counted;
 use crate::numbers;
+use crate::rank_list::rank_at;
 use circuit::Circuit;
-ghost use Prim.Native.Nat.{ℕ, _/_, _^_, _<_, _≤_};
+ghost use Prim.Native.Nat.{_/_, _^_, _<_, _≤_};
 ghost use mathlib.Core.Bool.{_&&_};
-ghost use mathlib.Core.List.{List};
 ghost use mathlib.Core.Path.{_≡_};
 ghost use lib.Dec.{ltb};
-ghost use lib.ListN.{take};
 ghost use Rattle.below.specs.Table.{table};
 ghost use Rattle.bits.specs.Bit.{oneIf};
 ghost use Rattle.circuit.specs.Circuit.{latchCount};
 ghost use Rattle.circuit.specs.Limits.{base};
-ghost use Rattle.circuit.specs.Stored.{lent, meant, solvable};
+ghost use Rattle.circuit.specs.Stored.{meant, solvable};
 ghost use Rattle.game.specs.CircuitGame.{circuitGame};
 ghost use Rattle.game.specs.Rank.{inRegion};
 ghost use Rattle.solver.specs.Over.{rankZero};
@@ -21,9 +21,9 @@ ghost use Rattle.solver.specs.RegionTable.{regionByte, regionTable};
 pub fn region(c: Circuit) -> [u8; Circuit::REGION]
     ensures { λ r. ⌜ r ≡ regionTable (inRegion (circuitGame (solvable (meant c)))) (2 ^ latchCount (solvable (meant c))) ⌝ }
 {
-    let states = states_counted(c.inputs, &c.input, &c.controllable, c.latches, &c.latch);
+    let n = counted(c);
     let ranked = crate::ranks(c);
-    region_of(&ranked, states)
+    region_of(&ranked, numbers(n.latches))
 }
 
 // The states of rank 0, of so many.
@@ -44,26 +44,6 @@ fn no_states() -> [u8; Circuit::REGION]
     ensures { λ r. ⌜ r ≡ table (λ j. 0) (2 ^ base .latches / 8) ⌝ }
 {
     [0u8; Circuit::REGION]
-}
-
-// How many states the circuit of lent lists has, or the empty one where it has too many inputs of a sort.
-fn states_counted<'a>(
-    inputs: usize,
-    input: &'a [u16],
-    controllable: &'a [u8],
-    latches: usize,
-    latch: &'a [u16],
-) -> usize
-    ensures { λ r. ⌜ ((largest : ℕ) (next : List ℕ) (output : ℕ) (gate left right : List ℕ) → r ≡ 2 ^ latchCount (solvable (lent largest (take inputs (now (input .entry))) (now (controllable .entry)) (take latches (now (latch .entry))) next output gate left right))) ⌝ }
-{
-    let i = below::fewer(inputs, input.len());
-    let u = circuit::counts::uncontrollable_count(&input[..i], controllable);
-    let k = circuit::counts::controllable_count(&input[..i], controllable);
-    if circuit::counts::too_many(u, k) {
-        return 1;
-    }
-    let l = below::fewer(latches, latch.len());
-    numbers(circuit::stored::latches_of(l))
 }
 
 // Eight states, the first at the lowest bit.
@@ -88,7 +68,7 @@ fn region_bit(ranks: &[u16], states: usize, s: usize) -> u8
     ensures { λ r. ⌜ r ≤ 1 ⌝ }
 {
     if s < states {
-        if moves::rank_at(ranks, s) == 0 {
+        if rank_at(ranks, s) == 0 {
             return 1;
         }
     }

@@ -4,6 +4,7 @@ use crate::kept::least_defeat;
 use crate::kept::none_led;
 use crate::kept::none_looked;
 use crate::kept::replies_kept;
+use crate::rank_list::rank_at;
 use circuit::Circuit;
 ghost use Prim.Native.Nat.{ℕ, _^_, _<_, _≤_};
 ghost use mathlib.Core.Bool.{not};
@@ -16,7 +17,7 @@ ghost use Rattle.circuit.specs.Circuit.{latchCount};
 ghost use Rattle.circuit.specs.Limits.{base};
 ghost use Rattle.circuit.specs.Stored.{lent};
 ghost use Rattle.game.specs.Rank.{round as roundOf};
-ghost use Rattle.moves.specs.Played.{played, ranksIn};
+ghost use Rattle.solver.specs.Played.{played, ranksIn};
 ghost use Rattle.solver.specs.AllKept.{AllKept};
 ghost use Rattle.solver.specs.Fair.{Fair};
 ghost use Rattle.solver.specs.AttacksAfter.{attackAfter, attacksAfter};
@@ -256,7 +257,7 @@ fn ranked<'a>(
     requires { ⌜ AllKept (played readings controls (lent 0 (now input) (now controllable) (now latch) (now next) output (now gate) (now left) (now right))) (ranksIn (now ranks)) k (now looked) (now slots) ⌝ }
     ensures { λ r. ⌜ (r .rank ≡ roundOf (played readings controls (lent 0 (now (input .entry)) (now (controllable .entry)) (now (latch .entry)) (now (next .entry)) output (now (gate .entry)) (now (left .entry)) (now (right .entry)))) k (ranksIn (now (ranks .entry))) state) × (r .attack ≡ attackAfter (played readings controls (lent 0 (now (input .entry)) (now (controllable .entry)) (now (latch .entry)) (now (next .entry)) output (now (gate .entry)) (now (left .entry)) (now (right .entry)))) k (now (ranks .entry)) attack state) × AllKept (played readings controls (lent 0 (now (input .entry)) (now (controllable .entry)) (now (latch .entry)) (now (next .entry)) output (now (gate .entry)) (now (left .entry)) (now (right .entry)))) (ranksIn (now (ranks .entry))) k (now (looked .exit)) (now (slots .exit)) ⌝ }
 {
-    let x = moves::rank_at(ranks, state as usize);
+    let x = rank_at(ranks, state as usize);
     if 0 < x {
         return Given { rank: x, attack };
     }
@@ -294,7 +295,7 @@ fn changes<'a>(ranks: &'a [u16], after: &'a [u16], states: usize) -> bool
 {
     let mut s = 0;
     while s < states {
-        if moves::rank_at(ranks, s) != moves::rank_at(after, s) {
+        if rank_at(ranks, s) != rank_at(after, s) {
             return true;
         }
         s += 1;

@@ -1,4 +1,5 @@
 // A window: eight controls in turn, and where each leads (01, "The game").
+use crate::rank_list::is_unranked;
 use circuit::Circuit;
 ghost use Prim.Native.Nat.{_+_, _≤_};
 ghost use lib.Dec.{ltb};
@@ -7,7 +8,7 @@ ghost use mathlib.Core.Path.{_≡_};
 ghost use Rattle.below.specs.Least.{least};
 ghost use Rattle.game.specs.Rank.{notRanked};
 ghost use Rattle.lanes.specs.Lane.{width};
-ghost use Rattle.moves.specs.Played.{ranksIn};
+ghost use Rattle.solver.specs.Played.{ranksIn};
 ghost use Rattle.solver.specs.Window.{window, leadsIn, slotKeeps, putSlots};
 
 // How many controls a window has.
@@ -35,7 +36,7 @@ fn slot_keeps(slot: u16, ranks: &[u16], k: u16) -> bool
     ensures { λ r. ⌜ r ≡ slotKeeps (notRanked (ranksIn (now (ranks .entry))) k) slot ⌝ }
 {
     if (slot as usize) < Circuit::STATES {
-        moves::is_unranked(ranks, k, slot as usize)
+        is_unranked(ranks, k, slot as usize)
     } else {
         false
     }

@@ -1,57 +1,26 @@
 // The listing of a circuit, put together on one page and written at once. Every writer here takes the place where its bytes go and
 // answers the place behind them.
+use bits::bytes::byte_at;
 use circuit::Circuit;
 
 // Above the longest listing: per state its number, in or out, and a reply of at most three digits for each reading, with what parts them.
 const PAGE: usize = Circuit::REPLIES * 4 + Circuit::STATES * 8 + 64;
 
 pub(crate) fn print_listing(c: Circuit) {
-    let ranks = solver::ranks(c);
-    print_counted(
-        c.inputs,
-        &c.input,
-        &c.controllable,
-        c.latches,
-        &c.latch,
-        &c.next,
-        c.output,
-        c.gates,
-        &c.gate,
-        &c.left,
-        &c.right,
-        &ranks,
-    );
-}
-
-fn print_counted<'a>(
-    inputs: usize,
-    input: &'a [u16],
-    controllable: &'a [u8],
-    latches: usize,
-    latch: &'a [u16],
-    next: &'a [u16],
-    output: u16,
-    gates: usize,
-    gate: &'a [u16],
-    left: &'a [u16],
-    right: &'a [u16],
-    ranks: &'a [u16],
-) {
-    let i = below::fewer(inputs, input.len());
-    let l = below::fewer(latches, latch.len());
-    let g = below::fewer(gates, gate.len());
+    let n = solver::counts::counted(c);
+    let solved = solver::solve(c);
+    let ranks = solved.ranks;
+    let replies = solved.replies;
+    let attacks = solved.attacks;
     let mut page = blank();
-    print_lent(
+    print_solved(
         &mut page,
-        &input[..i],
-        controllable,
-        &latch[..l],
-        next,
-        output,
-        &gate[..g],
-        left,
-        right,
-        ranks,
+        n.latches,
+        n.uncontrollable,
+        n.controllable,
+        &ranks,
+        &replies,
+        &attacks,
     );
 }
 
@@ -59,71 +28,30 @@ fn blank() -> [u8; PAGE] {
     [0; PAGE]
 }
 
-fn print_lent<'a>(
+fn print_solved<'a>(
     page: &mut [u8],
-    input: &'a [u16],
-    controllable: &'a [u8],
-    latch: &'a [u16],
-    next: &'a [u16],
-    output: u16,
-    gate: &'a [u16],
-    left: &'a [u16],
-    right: &'a [u16],
+    l: usize,
+    u: usize,
+    c: usize,
     ranks: &'a [u16],
+    replies: &'a [u8],
+    attacks: &'a [u8],
 ) {
-    let c = circuit::counts::controllable_count(input, controllable);
-    let u = input.len() - below::fewer(c, input.len());
-    let states = numbers(latch.len());
-    let controls = numbers(c) as usize;
-    let realizable = moves::rank_at(ranks, 0) == 0;
-    let first = put_counts(page, realizable, latch.len(), u, c);
+    let states = numbers(l);
+    let realizable = solver::rank_list::rank_at(ranks, 0) == 0;
+    let first = put_counts(page, realizable, l, u, c);
     if realizable {
-        let end = put_region(
-            page,
-            first,
-            input,
-            controllable,
-            latch,
-            next,
-            output,
-            gate,
-            left,
-            right,
-            readings(u),
-            controls,
-            states,
-            ranks,
-        );
+        let end = put_region(page, first, states, numbers(u), ranks, replies);
         desk::print_front(page, end);
     } else {
-        let end = put_ranks(
-            page,
-            first,
-            input,
-            controllable,
-            latch,
-            next,
-            output,
-            gate,
-            left,
-            right,
-            readings(u) as usize,
-            controls,
-            states,
-            ranks,
-        );
+        let end = put_ranks(page, first, states, ranks, attacks);
         desk::print_front(page, end);
     }
 }
 
-// How many numbers these many latches or controllable inputs make.
-fn numbers(n: usize) -> u16 {
+// How many numbers n bits make, of as many bits as a state may have.
+fn numbers(n: usize) -> usize {
     1 << below::fewer(n, Circuit::LATCHES)
-}
-
-// How many readings there are.
-fn readings(u: usize) -> u8 {
-    1 << below::fewer(u, Circuit::UNCONTROLLABLE)
 }
 
 // The verdict, L, U and C, at the front.
@@ -157,7 +85,7 @@ fn put_end(page: &mut [u8], at: usize) -> usize {
     behind(at, put::put_bytes(page, at, b"\n"))
 }
 
-// The place behind n bytes; no page is so long that it wraps.
+// The place behind n bytes; no list here is so long that it wraps.
 fn behind(at: usize, n: usize) -> usize {
     std::num::wrapping_add_usize(at, n)
 }
@@ -166,87 +94,39 @@ fn behind(at: usize, n: usize) -> usize {
 fn put_region<'a>(
     page: &mut [u8],
     at: usize,
-    input: &'a [u16],
-    controllable: &'a [u8],
-    latch: &'a [u16],
-    next: &'a [u16],
-    output: u16,
-    gate: &'a [u16],
-    left: &'a [u16],
-    right: &'a [u16],
-    readings: u8,
-    controls: usize,
-    states: u16,
+    states: usize,
+    readings: usize,
     ranks: &'a [u16],
+    replies: &'a [u8],
 ) -> usize {
     let mut end = at;
-    let mut s: u16 = 0;
+    let mut first = 0;
+    let mut s = 0;
     while s < states {
         let head = put_membership(page, end, ranks, s);
-        let replies = put_replies(
-            page,
-            head,
-            input,
-            controllable,
-            latch,
-            next,
-            output,
-            gate,
-            left,
-            right,
-            readings,
-            controls,
-            ranks,
-            s,
-        );
-        end = put_end(page, replies);
+        let row = put_replies(page, head, replies, first, readings);
+        end = put_end(page, row);
+        first = behind(first, readings);
         s += 1;
     }
     end
 }
 
-fn put_membership(page: &mut [u8], at: usize, ranks: &[u16], s: u16) -> usize {
+fn put_membership(page: &mut [u8], at: usize, ranks: &[u16], s: usize) -> usize {
     let own = put_number(page, at, s as u64);
-    if moves::rank_at(ranks, s as usize) == 0 {
+    if solver::rank_list::rank_at(ranks, s) == 0 {
         put_field(page, own, 1)
     } else {
         put_field(page, own, 0)
     }
 }
 
-fn put_replies<'a>(
-    page: &mut [u8],
-    at: usize,
-    input: &'a [u16],
-    controllable: &'a [u8],
-    latch: &'a [u16],
-    next: &'a [u16],
-    output: u16,
-    gate: &'a [u16],
-    left: &'a [u16],
-    right: &'a [u16],
-    readings: u8,
-    controls: usize,
-    ranks: &'a [u16],
-    s: u16,
-) -> usize {
+// A state's replies, one for each reading, from the place of its first on.
+fn put_replies(page: &mut [u8], at: usize, replies: &[u8], first: usize, readings: usize) -> usize {
     let mut end = at;
-    let mut r: u8 = 0;
+    let mut r = 0;
     while r < readings {
-        let reply = solver::reply_lent(
-            input,
-            controllable,
-            latch,
-            next,
-            output,
-            gate,
-            left,
-            right,
-            controls,
-            ranks,
-            s,
-            r,
-        );
+        let reply = byte_at(replies, behind(first, r));
         end = put_small(page, end, reply);
         r += 1;
     }
@@ -261,46 +141,30 @@ fn put_small(page: &mut [u8], at: usize, n: u8) -> usize {
 fn put_ranks<'a>(
     page: &mut [u8],
     at: usize,
-    input: &'a [u16],
-    controllable: &'a [u8],
-    latch: &'a [u16],
-    next: &'a [u16],
-    output: u16,
-    gate: &'a [u16],
-    left: &'a [u16],
-    right: &'a [u16],
-    readings: usize,
-    controls: usize,
-    states: u16,
+    states: usize,
     ranks: &'a [u16],
+    attacks: &'a [u8],
 ) -> usize {
     let mut end = at;
-    let mut s: u16 = 0;
+    let mut s = 0;
     while s < states {
-        let attack = solver::attack_lent(
-            input,
-            controllable,
-            latch,
-            next,
-            output,
-            gate,
-            left,
-            right,
-            readings,
-            controls,
-            ranks,
-            s,
-        );
-        end = put_rank(page, end, ranks, s, attack);
+        end = put_rank(page, end, ranks, attacks, s);
         s += 1;
     }
     end
 }
 
-fn put_rank(page: &mut [u8], at: usize, ranks: &[u16], s: u16, attack: u8) -> usize {
+fn put_rank<'a>(
+    page: &mut [u8],
+    at: usize,
+    ranks: &'a [u16],
+    attacks: &'a [u8],
+    s: usize,
+) -> usize {
     let own = put_number(page, at, s as u64);
-    let rank = moves::rank_at(ranks, s as usize);
+    let rank = solver::rank_list::rank_at(ranks, s);
     let head = put_field(page, own, rank as u64);
+    let attack = byte_at(attacks, s);
     let both = put_small(page, head, attack);
     put_end(page, both)
 }

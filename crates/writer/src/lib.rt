@@ -7,12 +7,10 @@ use circuit::Read;
 use kinds::certify_attacks;
 use kinds::certify_replies;
 ghost use Prim.Native.Nat.{_^_, _≤_};
-ghost use lib.ListN.{take};
 ghost use mathlib.Core.Path.{_≡_};
 ghost use Rattle.circuit.specs.Limits.{base};
 ghost use Rattle.circuit.specs.Outcome.{taken};
-ghost use Rattle.circuit.specs.Stored.{lent, meant, solvable};
-ghost use Rattle.checker.specs.Counted.{Counted};
+ghost use Rattle.circuit.specs.Stored.{meant, solvable};
 ghost use Rattle.file.specs.CircuitIn.{circuitIn};
 ghost use Rattle.writer.specs.Answer.{CertifiedAs};
 
@@ -36,142 +34,22 @@ pub fn certify(file: &[u8], out: &mut [u8]) -> Certified
 }
 
 // Writes the certificate of a circuit that was read from `file` at the front of a lent buffer. One with more inputs of a sort than a
-// circuit may have counts as the empty circuit. Where the buffer is too short, nothing is written.
+// circuit may have counts as the empty circuit. The rank of state 0 says which certificate it is. Where the buffer is too short, nothing
+// is written.
 pub fn certify_circuit(c: Circuit, file: &[u8], out: &mut [u8]) -> Certified
     ensures { λ r. ⌜ CertifiedAs (now (file .entry)) (taken (solvable (meant c))) (now (out .entry)) (now (out .exit)) r ⌝ }
 {
-    certify_counted(
-        c.inputs,
-        &c.input,
-        &c.controllable,
-        c.latches,
-        &c.latch,
-        &c.next,
-        c.output,
-        c.gates,
-        &c.gate,
-        &c.left,
-        &c.right,
-        file,
-        out,
-    )
-}
-
-// Lends on what lies below the counts, or nothing where there are too many inputs of a sort.
-fn certify_counted<'a>(
-    inputs: usize,
-    input: &'a [u16],
-    controllable: &'a [u8],
-    latches: usize,
-    latch: &'a [u16],
-    next: &'a [u16],
-    output: u16,
-    gates: usize,
-    gate: &'a [u16],
-    left: &'a [u16],
-    right: &'a [u16],
-    file: &'a [u8],
-    out: &mut [u8],
-) -> Certified
-    ensures { λ r. ⌜ CertifiedAs (now (file .entry)) (taken (solvable (lent 0 (take inputs (now (input .entry))) (now (controllable .entry)) (take latches (now (latch .entry))) (now (next .entry)) output (take gates (now (gate .entry))) (now (left .entry)) (now (right .entry))))) (now (out .entry)) (now (out .exit)) r ⌝ }
-{
-    let i = below::fewer(inputs, input.len());
-    let l = below::fewer(latches, latch.len());
-    let g = below::fewer(gates, gate.len());
-    let u = circuit::counts::uncontrollable_count(&input[..i], controllable);
-    let k = circuit::counts::controllable_count(&input[..i], controllable);
-    if circuit::counts::too_many(u, k) {
-        return certify_lent(
-            &input[..0],
-            controllable,
-            &latch[..0],
-            next,
-            0,
-            &gate[..0],
-            left,
-            right,
-            0,
-            0,
-            0,
-            file,
-            out,
-        );
-    }
-    let n = below::fewer(l, Circuit::LATCHES);
-    certify_lent(
-        &input[..i],
-        controllable,
-        &latch[..l],
-        next,
-        output,
-        &gate[..g],
-        left,
-        right,
-        n,
-        u,
-        k,
-        file,
-        out,
-    )
-}
-
-// Ranks the states; the verdict says which certificate is written.
-fn certify_lent<'a>(
-    input: &'a [u16],
-    controllable: &'a [u8],
-    latch: &'a [u16],
-    next: &'a [u16],
-    output: u16,
-    gate: &'a [u16],
-    left: &'a [u16],
-    right: &'a [u16],
-    latches: usize,
-    uncontrollables: usize,
-    controllables: usize,
-    file: &'a [u8],
-    out: &mut [u8],
-) -> Certified
-    requires { ⌜ Counted (lent 0 (now input) (now controllable) (now latch) (now next) output (now gate) (now left) (now right)) latches uncontrollables controllables ⌝ }
-    ensures { λ r. ⌜ CertifiedAs (now (file .entry)) (taken (lent 0 (now (input .entry)) (now (controllable .entry)) (now (latch .entry)) (now (next .entry)) output (now (gate .entry)) (now (left .entry)) (now (right .entry)))) (now (out .entry)) (now (out .exit)) r ⌝ }
-{
-    let states = numbers(latches);
-    let readings = numbers(uncontrollables);
-    let controls = numbers(controllables);
-    let ranks = solver::ranks_lent(input, controllable, latch, next, output, gate, left, right);
+    let n = solver::counts::counted(c);
+    let solved = solver::solve(c);
+    let ranks = solved.ranks;
+    let states = numbers(n.latches);
     if ranks[0] == 0 {
-        certify_replies(
-            input,
-            controllable,
-            latch,
-            next,
-            output,
-            gate,
-            left,
-            right,
-            states,
-            readings,
-            controls,
-            &ranks,
-            file,
-            out,
-        )
+        let readings = numbers(n.uncontrollable);
+        let replies = solved.replies;
+        certify_replies(states, readings, &ranks, &replies, file, out)
     } else {
-        certify_attacks(
-            input,
-            controllable,
-            latch,
-            next,
-            output,
-            gate,
-            left,
-            right,
-            states,
-            readings,
-            controls,
-            &ranks,
-            file,
-            out,
-        )
+        let attacks = solved.attacks;
+        certify_attacks(states, &ranks, &attacks, file, out)
     }
 }
 

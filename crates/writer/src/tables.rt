@@ -1,20 +1,18 @@
 // The records of a certificate (01, "The certificate"). Every writer takes the place where its bytes go and answers the place behind
 // them. The bounds on places only keep their sums from wrapping.
+use bits::bytes::byte_at;
 use put::put_bytes;
-ghost use Prim.Native.Nat.{_+_, _*_, _/_, _%_, _^_, _<_, _≤_};
-ghost use lib.Dec.{ltb};
-ghost use mathlib.Core.Bool.{_&&_};
+ghost use Prim.Native.Nat.{_+_, _/_, _^_, _<_, _≤_};
+ghost use lib.ListN.{getD};
 ghost use mathlib.Core.List.{[], _∷_, _++_};
 ghost use mathlib.Core.Path.{_≡_};
 ghost use Rattle.below.specs.Table.{table};
-ghost use Rattle.bits.specs.Bit.{oneIf};
 ghost use Rattle.bits.specs.Digits.{digits};
 ghost use Rattle.bits.specs.InTurn.{inTurn};
 ghost use Rattle.bits.specs.Wrote.{Wrote};
 ghost use Rattle.circuit.specs.Limits.{base};
-ghost use Rattle.circuit.specs.Stored.{lent};
-ghost use Rattle.moves.specs.Played.{played, ranksIn};
-ghost use Rattle.solver.specs.Over.{rankZero, replyOver, attackOver};
+ghost use Rattle.solver.specs.Played.{ranksIn};
+ghost use Rattle.solver.specs.Over.{rankZero};
 ghost use Rattle.solver.specs.RegionTable.{regionByte};
 ghost use Rattle.writer.specs.Rows.{attackRow};
 
@@ -45,94 +43,23 @@ pub(crate) fn put_region(out: &mut [u8], at: usize, ranks: &[u16], states: usize
     at + put_bytes(out, at, &region[..n])
 }
 
-// The replies, a byte each, at s × 2^U + reading.
-pub(crate) fn put_replies<'a>(
-    out: &mut [u8],
-    at: usize,
-    input: &'a [u16],
-    controllable: &'a [u8],
-    latch: &'a [u16],
-    next: &'a [u16],
-    output: u16,
-    gate: &'a [u16],
-    left: &'a [u16],
-    right: &'a [u16],
-    states: usize,
-    readings: usize,
-    controls: usize,
-    ranks: &'a [u16],
-) -> usize
-    requires { ⌜ at ≤ 2 ^ 63 ⌝ }
-    requires { ⌜ states ≤ 2 ^ base .latches ⌝ }
-    requires { ⌜ 0 < readings ⌝ }
-    requires { ⌜ readings ≤ 2 ^ base .uncontrollable ⌝ }
-    ensures { λ r. ⌜ Wrote (table (λ i. replyOver (played 0 controls (lent 0 (now (input .entry)) (now (controllable .entry)) (now (latch .entry)) (now (next .entry)) output (now (gate .entry)) (now (left .entry)) (now (right .entry)))) (now (ranks .entry)) (i / readings) (i % readings)) (states * readings)) at (now (out .entry)) (now (out .exit)) r ⌝ }
-{
-    let n = states * readings;
-    let mut behind = at;
-    let mut i = 0;
-    while i < n {
-        let state = i / readings;
-        let reading = i % readings;
-        let byte = [solver::reply_lent(
-            input,
-            controllable,
-            latch,
-            next,
-            output,
-            gate,
-            left,
-            right,
-            controls,
-            ranks,
-            state as u16,
-            reading as u8,
-        )];
-        behind += put_bytes(out, behind, &byte);
-        i += 1;
-    }
-    behind
-}
-
 // Ranks and attacks, three bytes for a state.
 pub(crate) fn put_attacks<'a>(
     out: &mut [u8],
     at: usize,
-    input: &'a [u16],
-    controllable: &'a [u8],
-    latch: &'a [u16],
-    next: &'a [u16],
-    output: u16,
-    gate: &'a [u16],
-    left: &'a [u16],
-    right: &'a [u16],
-    states: usize,
-    readings: usize,
-    controls: usize,
     ranks: &'a [u16],
+    attacks: &'a [u8],
+    states: usize,
 ) -> usize
     requires { ⌜ at ≤ 2 ^ 63 ⌝ }
     requires { ⌜ states ≤ 2 ^ base .latches ⌝ }
-    ensures { λ r. ⌜ Wrote (inTurn (attackRow (ranksIn (now (ranks .entry))) (attackOver (played readings controls (lent 0 (now (input .entry)) (now (controllable .entry)) (now (latch .entry)) (now (next .entry)) output (now (gate .entry)) (now (left .entry)) (now (right .entry)))) (now (ranks .entry)))) states) at (now (out .entry)) (now (out .exit)) r ⌝ }
+    ensures { λ r. ⌜ Wrote (inTurn (attackRow (ranksIn (now (ranks .entry))) (λ s. getD (now (attacks .entry)) s 0)) states) at (now (out .entry)) (now (out .exit)) r ⌝ }
 {
     let mut behind = at;
     let mut s = 0;
     while s < states {
-        let rank = moves::rank_at(ranks, s);
-        let attack = solver::attack_lent(
-            input,
-            controllable,
-            latch,
-            next,
-            output,
-            gate,
-            left,
-            right,
-            readings,
-            controls,
-            ranks,
-            s as u16,
-        );
+        let rank = solver::rank_list::rank_at(ranks, s);
+        let attack = byte_at(attacks, s);
         behind = put_row(out, behind, rank, attack);
         s += 1;
     }

@@ -15,7 +15,7 @@ use Rattle.game.proofs.laws.InLane.{lane-keeps}
 use Rattle.lanes.specs.Block.{BlockOf, controlIn}
 use Rattle.lanes.specs.Lane.{width}
 use Rattle.lanes.specs.declared.Lanes.{Lanes}
-use Rattle.moves.specs.Played.{played}
+use Rattle.solver.specs.Played.{played}
 
 module _ (controls : ℕ) (c : Circuit) (set : ℕ → Bool) (s r from : ℕ) where
   abbrev g : Game

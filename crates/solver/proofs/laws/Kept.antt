@@ -25,8 +25,8 @@ use Rattle.game.proofs.laws.Rank.{ranked-is, is-ranked}
 use Rattle.lanes.specs.Block.{BlockOf}
 use Rattle.lanes.specs.Lane.{width}
 use Rattle.lanes.specs.declared.Lanes.{Lanes}
-use Rattle.moves.specs.Played.{played, ranksIn}
-use Rattle.moves.proofs.laws.Played.{none-defeats}
+use Rattle.solver.specs.Played.{played, ranksIn}
+use Rattle.solver.proofs.laws.Played.{none-defeats}
 use Rattle.step.specs.Step.{step}
 use Rattle.step.proofs.laws.Step.{next-below}
 use Rattle.solver.specs.AllKept.{KeptAt, AllKept}

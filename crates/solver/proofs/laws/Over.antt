@@ -1,5 +1,5 @@
--- Replies and attacks over a list of ranks: what the code finds, and over the game's own ranks they are the game's. Assumes nothing.
-use Prim.Native.Nat.{ℕ, _-_, _^_, _<_, _≤_}
+-- Replies over a list of ranks: what the code finds, and over the game's own ranks they are the game's. Assumes nothing.
+use Prim.Native.Nat.{ℕ, _^_, _<_, _≤_}
 use native.Mathlib.Omega.{arith}
 use mathlib.Core.Bool.{Bool, true, false, cond, not, _&&_}
 use mathlib.Core.List.{List}
@@ -9,18 +9,16 @@ use borrow.Author.Tests.{lt-ltb, le-ltb, le-leb}
 use Rattle.below.specs.Least.{least}
 use Rattle.below.proofs.laws.Least.{least-same}
 use Rattle.circuit.specs.Limits.{base}
-use Rattle.game.specs.Attack.{attack}
 use Rattle.game.specs.Game.{Game, Proper}
 use Rattle.game.specs.Keeps.{keeps}
-use Rattle.game.specs.Rank.{notRanked, defeats, rank, inRegion}
+use Rattle.game.specs.Rank.{notRanked, inRegion}
 use Rattle.game.specs.Reply.{reply}
-use Rattle.game.proofs.laws.Attack.{attack-is-reading}
 use Rattle.game.proofs.laws.Keeps.{keeps-same}
 use Rattle.game.proofs.laws.Reply.{reply-is-control}
-use Rattle.moves.specs.Played.{ranksIn}
-use Rattle.solver.specs.Over.{rankZero, found, replyOver, attackOver}
+use Rattle.solver.specs.Played.{ranksIn}
+use Rattle.solver.specs.Over.{rankZero, found, replyOver}
 use Rattle.solver.specs.RankTable.{rankTable}
-use Rattle.solver.proofs.laws.RankTable.{ranked-same, defeats-same, rank-in-table}
+use Rattle.solver.proofs.laws.RankTable.{rank-in-table}
 
 pub found-below : (i n : ℕ) → i < n → i ≡ found i n
 unfolding found
@@ -59,14 +57,6 @@ module _ (g : Game) (ranks : List ℕ) (s : ℕ) (x : ℕ) (is : x ≡ ranksIn r
   unfolding replyOver
   reply-found bound r k n b most h e f q = rw (zero-true h) (q ∙ ap₂ found (e ∙ ap (λ (set : ℕ → Bool). least (keeps g set s r) (g .controls)) (unranked-is-zero ranks bound most)) f)
 
-  pub no-attack : x ≤ 0 → 0 ≡ attackOver g ranks s
-  unfolding attackOver
-  no-attack h = rw (zero-true h)
-
-  pub attack-found : (r n b : ℕ) → 0 < x → r ≡ least (defeats g (ranksIn ranks) (x - 1) s) (g .readings) → n ≡ g .readings → b ≡ found r n → b ≡ attackOver g ranks s
-  unfolding attackOver
-  attack-found r n b h e f q = rw (zero-false h) (q ∙ ap₂ found (e ∙ ap (λ (y : ℕ). least (defeats g (ranksIn ranks) (y - 1) s) (g .readings)) is) f)
-
 module _ (g : Game) (proper : Proper g) (few : g .states ≤ 2 ^ base .latches) where
   -- the states of rank 0 in the list of ranks are those of the region
   zero-in-region : (s : ℕ) → s < g .states → rankZero (rankTable g) s ≡ inRegion g s
@@ -87,20 +77,3 @@ module _ (g : Game) (proper : Proper g) (few : g .states ≤ 2 ^ base .latches) 
         by : (b : Bool) → inRegion g s ≡ b → cond (rankZero (rankTable g) s) (found (least (keeps g (rankZero (rankTable g)) s r) (g .controls)) (g .controls)) 0 ≡ cond (inRegion g s) (least (keeps g (inRegion g) s r) (g .controls)) 0
         by true e = rw (zero-in-region s state, e, same) (sym (found-below (least (keeps g (inRegion g) s r) (g .controls)) (g .controls) (omega (arith, inside e, reply-is-control g proper s r state h e))))
         by false e = rw (zero-in-region s state, e)
-
-    pub attack-over-is-attack : attackOver g (rankTable g) s ≡ attack g s
-    unfolding attackOver attack
-    attack-over-is-attack = by (inRegion g s) refl
-      where
-        same-set : (t : ℕ) → t < g .states → notRanked (ranksIn (rankTable g)) (rank g s - 1) t ≡ notRanked (rank g) (rank g s - 1) t
-        same-set t l = ranked-same (ranksIn (rankTable g)) (rank g) (rank g s - 1) t (rank-in-table g few t l)
-
-        same : least (defeats g (ranksIn (rankTable g)) (ranksIn (rankTable g) s - 1) s) (g .readings) ≡ least (defeats g (rank g) (rank g s - 1) s) (g .readings)
-        same = rw (rank-in-table g few s state) (least-same (defeats g (ranksIn (rankTable g)) (rank g s - 1) s) (defeats g (rank g) (rank g s - 1) s) (g .readings) (λ r l. defeats-same g proper (ranksIn (rankTable g)) (rank g) (rank g s - 1) s r same-set))
-
-        outside : inRegion g s ≡ false → attack g s ≡ least (defeats g (rank g) (rank g s - 1) s) (g .readings)
-        outside e = rw e
-
-        by : (b : Bool) → inRegion g s ≡ b → cond (rankZero (rankTable g) s) 0 (found (least (defeats g (ranksIn (rankTable g)) (ranksIn (rankTable g) s - 1) s) (g .readings)) (g .readings)) ≡ cond (inRegion g s) 0 (least (defeats g (rank g) (rank g s - 1) s) (g .readings))
-        by true e = rw (zero-in-region s state, e)
-        by false e = rw (zero-in-region s state, e, same) (sym (found-below (least (defeats g (rank g) (rank g s - 1) s) (g .readings)) (g .readings) (omega (arith, outside e, attack-is-reading g proper s state e))))

@@ -13,8 +13,9 @@ use Rattle.below.specs.Table.{table}
 use Rattle.below.proofs.laws.Table.{table-same}
 use Rattle.circuit.specs.Circuit.{Circuit}
 use Rattle.circuit.specs.Limits.{base}
+use Rattle.game.specs.Keeps.{keeps}
 use Rattle.game.specs.Reply.{reply}
-use Rattle.moves.specs.Played.{played}
+use Rattle.solver.specs.Played.{played}
 use Rattle.solver.specs.AllKept.{KeptAt, AllKept}
 use Rattle.solver.specs.Fair.{Fair}
 use Rattle.solver.specs.Over.{replyOver}
@@ -23,7 +24,11 @@ use Rattle.solver.specs.Solution.{replyTable}
 use Rattle.solver.specs.Window.{window, slotsAt}
 use Rattle.solver.proofs.laws.Kept.{look-start}
 use Rattle.solver.proofs.laws.Over.{reply-over-is-reply}
-use Rattle.solver.proofs.laws.Solution.{reply-any-readings}
+
+-- a reply doesn't look at how many readings there are
+reply-any-readings : (readings other controls : ℕ) (c : Circuit) (ranks : List ℕ) (s r : ℕ) → replyOver (played readings controls c) ranks s r ≡ replyOver (played other controls c) ranks s r
+unfolding replyOver keeps played
+reply-any-readings readings other controls c ranks s r = refl
 
 readings-are : (readings controls : ℕ) (c : Circuit) → min readings (2 ^ base .uncontrollable) ≡ played readings controls c .readings
 unfolding played

@@ -80,7 +80,3 @@ certified-refused file c buffer h =
       answer = rw (fitted-refused (certificateOf file c) (length buffer) h);
       bytes = rw (fitted-refused (certificateOf file c) (length buffer) h);
     }
-
--- of one and the same circuit
-pub certified-for : {file before after : List ℕ} {r : Certified} {c d : Circuit} → c ≡ d → CertifiedAs file (taken c) before after r → CertifiedAs file (taken d) before after r
-certified-for {file} {before} {after} {r} e w = subst (λ (k : Circuit). CertifiedAs file (taken k) before after r) e w

@@ -1,53 +1,67 @@
--- A circuit within the limits, its counts and its ranks, is solved; and the rank of state 0 is the verdict. Assumes nothing.
-use Prim.Native.Nat.{ℕ, _^_, _≤_}
+-- A circuit's counts and its solution are what the writers of tables go by; and the rank of state 0 is the verdict. Assumes nothing.
+use Prim.Native.Nat.{ℕ, _*_, _^_, _≤_}
 use native.Mathlib.Omega.{arith}
 use mathlib.Core.Bool.{true, false}
 use mathlib.Core.List.{List}
 use mathlib.Core.Path.{_≡_, sym, ap, _∙_}
 use lib.Dec.{eqb}
-use lib.ListN.{getD}
+use lib.ListN.{length, getD}
 use lib.Pow.{pow-mono}
 use borrow.Author.Tests.{eq-eqb, ne-eqb}
-use Rattle.circuit.specs.Circuit.{Circuit, latchCount, uncontrollableCount, controllableCount}
+use Rattle.circuit.specs.Circuit.{Circuit, latchCount, uncontrollableCount}
 use Rattle.circuit.specs.Limits.{base}
-use Rattle.circuit.specs.Stored.{solvable}
-use Rattle.checker.specs.Counted.{Counted}
 use Rattle.game.specs.CircuitGame.{circuitGame, isRealizable}
+use Rattle.solver.specs.Counts.{countsOf}
 use Rattle.solver.specs.RankTable.{rankTable}
-use Rattle.solver.proofs.laws.Solved.{small-solvable, realizable-at-zero}
-use Rattle.writer.specs.Solved.{Solved}
+use Rattle.solver.specs.Solution.{replyTable, attackTable, solutionOf}
+use Rattle.solver.specs.declared.Solution.{Solution}
+use Rattle.solver.specs.declared.counts.Counts.{Counts}
+use Rattle.solver.proofs.laws.Solution.{replies-long}
+use Rattle.solver.proofs.laws.Solved.{realizable-at-zero}
+use Rattle.writer.specs.Solved.{Solved, Replied, Attacked}
 
-module _ (c : Circuit) (L U C states readings controls : ℕ) (ranks : List ℕ) (counted : Counted c L U C) (s : states ≡ 2 ^ L) (r : readings ≡ 2 ^ U) (k : controls ≡ 2 ^ C) (ranked : ranks ≡ rankTable (circuitGame (solvable c))) where
-  few-latches : latchCount c ≤ base .latches
-  few-latches = omega (arith, counted .latches, counted .fewLatches)
+-- as many numbers as n bits make are few
+pub few-numbers : (n m most : ℕ) → m ≡ 2 ^ n → n ≤ most → m ≤ 2 ^ most
+few-numbers n m most e h = omega (arith, e, pow-mono {i = n} {j = most} h)
 
-  few-readings : uncontrollableCount c ≤ base .uncontrollable
-  few-readings = omega (arith, counted .readings, counted .fewReadings)
+module _ (c : Circuit) (s : Solution) (is : s ≡ solutionOf (circuitGame c)) where
+  ranks-are : s .ranks ≡ rankTable (circuitGame c)
+  unfolding solutionOf
+  ranks-are = ap (λ (t : Solution). t .ranks) is
 
-  few-controls : controllableCount c ≤ base .controllable
-  few-controls = omega (arith, counted .controls, counted .fewControls)
+  replies-are : s .replies ≡ replyTable (circuitGame c)
+  unfolding solutionOf
+  replies-are = ap (λ (t : Solution). t .replies) is
 
-  own-ranks : ranks ≡ rankTable (circuitGame c)
-  own-ranks = ranked ∙ ap (λ (d : Circuit). rankTable (circuitGame d)) (small-solvable c few-readings few-controls)
+  attacks-are : s .attacks ≡ attackTable (circuitGame c)
+  unfolding solutionOf
+  attacks-are = ap (λ (t : Solution). t .attacks) is
 
-  pub is-solved : Solved c states readings controls ranks
-  is-solved =
-      record {
-        fewLatches = few-latches;
-        fewReadings = few-readings;
-        fewControls = few-controls;
-        statesAre = s ∙ ap (λ (n : ℕ). 2 ^ n) (counted .latches);
-        readingsAre = r ∙ ap (λ (n : ℕ). 2 ^ n) (counted .readings);
-        controlsAre = k ∙ ap (λ (n : ℕ). 2 ^ n) (counted .controls);
-        ranksAre = own-ranks;
-      }
+  pub all-replies : length (s .replies) ≡ 2 ^ base .latches * 2 ^ base .uncontrollable
+  all-replies = ap length replies-are ∙ replies-long (circuitGame c)
 
-  at-zero : eqb (getD ranks 0 0) 0 ≡ isRealizable c
-  unfolding circuitGame
-  at-zero = ap (λ (l : List ℕ). eqb (getD l 0 0) 0) own-ranks ∙ realizable-at-zero c (pow-mono few-latches)
+  module _ (n : Counts) (counts : n ≡ countsOf c) (few : n .latches ≤ base .latches) (states : ℕ) (states-are : states ≡ 2 ^ n .latches) where
+    latches-are : states ≡ 2 ^ latchCount c
+    unfolding countsOf
+    latches-are = states-are ∙ ap (λ (m : Counts). 2 ^ m .latches) counts
 
-  pub zero-realizable : getD ranks 0 0 ≡ 0 → isRealizable c ≡ true
-  zero-realizable e = sym at-zero ∙ eq-eqb (getD ranks 0 0) 0 e
+    is-solved : Solved c states (s .ranks)
+    is-solved = record { few = few-numbers (n .latches) states (base .latches) states-are few; statesAre = latches-are; ranksAre = ranks-are }
 
-  pub ranked-unrealizable : (getD ranks 0 0 ≡ 0 → ⊥) → isRealizable c ≡ false
-  ranked-unrealizable e = sym at-zero ∙ ne-eqb (getD ranks 0 0) 0 e
+    at-zero : eqb (getD (s .ranks) 0 0) 0 ≡ isRealizable c
+    unfolding circuitGame
+    at-zero = ap (λ (l : List ℕ). eqb (getD l 0 0) 0) ranks-are ∙ realizable-at-zero c (omega (arith, is-solved .few, latches-are))
+
+    pub zero-replied : (readings : ℕ) → readings ≡ 2 ^ n .uncontrollable → n .uncontrollable ≤ base .uncontrollable → getD (s .ranks) 0 0 ≡ 0 → Replied c states readings (s .ranks) (s .replies)
+    unfolding countsOf
+    zero-replied readings r narrow e =
+        record {
+          solved = is-solved;
+          few = few-numbers (n .uncontrollable) readings (base .uncontrollable) r narrow;
+          readingsAre = r ∙ ap (λ (m : Counts). 2 ^ m .uncontrollable) counts;
+          repliesAre = replies-are;
+          verdict = sym at-zero ∙ eq-eqb (getD (s .ranks) 0 0) 0 e;
+        }
+
+    pub ranked-attacked : (getD (s .ranks) 0 0 ≡ 0 → ⊥) → Attacked c states (s .ranks) (s .attacks)
+    ranked-attacked e = record { solved = is-solved; attacksAre = attacks-are; verdict = sym at-zero ∙ ne-eqb (getD (s .ranks) 0 0) 0 e }

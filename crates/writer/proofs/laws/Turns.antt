@@ -1,16 +1,14 @@
 -- A loop that writes the rows of a table one by one, each of so many bytes. Assumes nothing.
-use Prim.Native.Nat.{ℕ, zero, suc, _+_, _*_, _<_, _≤_}
+use Prim.Native.Nat.{ℕ, _+_, _*_, _<_, _≤_}
 use native.Mathlib.Nat.{mul-add, mul-zero, mul-one}
 use native.Mathlib.Omega.{arith}
 use mathlib.Core.List.{List, [], _∷_, _++_}
-use mathlib.Core.Path.{_≡_, refl, ap, _∙_, subst, subst₂}
+use mathlib.Core.Path.{_≡_, subst, subst₂}
 use lib.ListN.{length}
-use Rattle.below.specs.Table.{table}
 use Rattle.bits.specs.InTurn.{inTurn}
 use Rattle.bits.specs.Digits.{digits}
-use Rattle.bits.specs.Wrote.{Wrote, putAt}
+use Rattle.bits.specs.Wrote.{Wrote}
 use Rattle.bits.proofs.laws.InTurn.{wrote-none, wrote-turn}
-use Rattle.bits.proofs.laws.Wrote.{wrote-put}
 use Rattle.records.proofs.laws.Rows.{length-row}
 use Rattle.writer.specs.Rows.{attackRow}
 
@@ -29,20 +27,6 @@ module _ (f : ℕ → List ℕ) (width n at : ℕ) {before : List ℕ} where
 
   pub turns-end : {next i : ℕ} {after : List ℕ} → Turns f width n at before after next i → n ≤ i → Wrote (inTurn f n) at before after next
   turns-end {next} {i} {after} s h = subst (λ (k : ℕ). Wrote (inTurn f k) at before after next) (omega (arith, s .within)) (s .wrote)
-
--- a table is its cells in turn
-pub table-in-turn : (f : ℕ → ℕ) (n : ℕ) → inTurn (λ i. f i ∷ []) n ≡ table f n
-unfolding inTurn table
-table-in-turn f zero = refl
-table-in-turn f (suc n) = ap (λ (l : List ℕ). l ++ (f n ∷ [])) (table-in-turn f n)
-
--- a loop that writes the cells of a table: one more byte, and the end
-module _ (f : ℕ → ℕ) (n at : ℕ) {before : List ℕ} where
-  pub cells-more : (b r : ℕ) {mid i : ℕ} {between after : List ℕ} → Turns (λ k. f k ∷ []) 1 n at before between mid i → i < n → b ≡ f i → r ≡ length (b ∷ []) → after ≡ putAt between mid (b ∷ []) → Turns (λ k. f k ∷ []) 1 n at before after (mid + r) (i + 1)
-  cells-more b r {mid} {i} {between} t h is one put = turns-more (λ k. f k ∷ []) 1 n at t h refl (wrote-put (omega arith) (put ∙ ap (λ (x : ℕ). putAt between mid (x ∷ [])) is))
-
-  pub cells-end : {next i : ℕ} {after : List ℕ} → Turns (λ k. f k ∷ []) 1 n at before after next i → n ≤ i → Wrote (table f n) at before after next
-  cells-end {next} {i} {after} t h = subst (λ (l : List ℕ). Wrote l at before after next) (table-in-turn f n) (turns-end (λ k. f k ∷ []) 1 n at t h)
 
 -- one more row of an attack table
 pub rows-more : (ranks attacks : ℕ → ℕ) (n at : ℕ) (rank attack : ℕ) {mid next i : ℕ} {before between after : List ℕ} → Turns (attackRow ranks attacks) 3 n at before between mid i → i < n → rank ≡ ranks i → attack ≡ attacks i → Wrote (digits 256 2 rank ++ (attack ∷ [])) mid between after next → Turns (attackRow ranks attacks) 3 n at before after next (i + 1)

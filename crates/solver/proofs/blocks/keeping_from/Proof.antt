@@ -7,7 +7,7 @@ use Rattle.circuit.specs.Limits.{base}
 use Rattle.circuit.specs.Stored.{lent}
 use Rattle.game.specs.Keeps.{keeps}
 use Rattle.game.specs.Rank.{notRanked}
-use Rattle.moves.specs.Played.{played, ranksIn}
+use Rattle.solver.specs.Played.{played, ranksIn}
 use Rattle.solver.proofs.laws.Blocks.{lane-within, lane-found, lane-block, lane-later, lane-forward}
 use borrow.Author.Needs.{needs}
 use Rattle.solver.proofs.blocks.keeping_from.Statement.{statement}

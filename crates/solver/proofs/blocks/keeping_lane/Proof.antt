@@ -5,7 +5,7 @@ use mathlib.Core.Path.{sym, _∙_}
 use Rattle.below.proofs.laws.LeastFrom.{Searched, searched-from, searched-next, searched-here, searched-end}
 use Rattle.game.specs.Rank.{notRanked}
 use Rattle.game.specs.InLane.{keepsIn}
-use Rattle.moves.specs.Played.{ranksIn}
+use Rattle.solver.specs.Played.{ranksIn}
 use borrow.Author.Needs.{needs}
 use Rattle.solver.proofs.blocks.keeping_lane.Statement.{statement}
 use Rattle.solver.proofs.blocks.keeping_lane.Tie as tie

@@ -1,7 +1,7 @@
 -- `solver::blocks::keeps_in` meets its contract: an error keeps nowhere; without one the next state must be in the set.
 use mathlib.Core.Path.{sym, ap, _∙_}
 use Rattle.game.specs.Rank.{notRanked}
-use Rattle.moves.specs.Played.{ranksIn}
+use Rattle.solver.specs.Played.{ranksIn}
 use Rattle.game.proofs.laws.InLane.{error-fails, next-decides}
 use borrow.Author.Needs.{needs}
 use Rattle.solver.proofs.blocks.keeps_in.Statement.{statement}

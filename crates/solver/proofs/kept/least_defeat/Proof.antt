@@ -6,7 +6,7 @@ use Rattle.below.proofs.laws.Passed.{Passed, passed-start, passed-next, passed-
 use Rattle.circuit.specs.Limits.{base}
 use Rattle.circuit.specs.Stored.{lent}
 use Rattle.game.specs.Rank.{defeats}
-use Rattle.moves.specs.Played.{played, ranksIn}
+use Rattle.solver.specs.Played.{played, ranksIn}
 use Rattle.solver.specs.AllKept.{AllKept}
 use borrow.Author.Needs.{needs}
 use Rattle.solver.proofs.laws.Kept.{place-fits, first-fits}

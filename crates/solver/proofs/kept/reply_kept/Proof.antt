@@ -1,7 +1,7 @@
 -- `solver::kept::reply_kept` meets its contract: outside the set 0, inside it the least control that keeps.
 use native.Mathlib.Omega.{arith}
 use Rattle.circuit.specs.Stored.{lent}
-use Rattle.moves.specs.Played.{played}
+use Rattle.solver.specs.Played.{played}
 use Rattle.solver.proofs.laws.Over.{no-reply, reply-found}
 use borrow.Author.Needs.{needs}
 use Rattle.solver.proofs.kept.reply_kept.Statement.{statement}

@@ -1,6 +1,6 @@
 -- `solver::rounds::ranked` meets its contract: a rank once given stays, and its attack; another is given exactly if some reading defeats, the least one.
 use Rattle.circuit.specs.Stored.{lent}
-use Rattle.moves.specs.Played.{played, ranksIn}
+use Rattle.solver.specs.Played.{played, ranksIn}
 use Rattle.solver.proofs.laws.RankTable.{rank-kept, rank-given, rank-none}
 use Rattle.solver.proofs.laws.Attacks.{attack-kept, attack-new, attack-none}
 use borrow.Author.Needs.{needs}

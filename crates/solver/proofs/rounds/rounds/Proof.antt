@@ -6,7 +6,7 @@ use lib.ListN.{length}
 use borrow.Author.Tests.{not-true}
 use Rattle.circuit.specs.Limits.{base}
 use Rattle.circuit.specs.Stored.{lent}
-use Rattle.moves.specs.Played.{played, ranksIn}
+use Rattle.solver.specs.Played.{played, ranksIn}
 use Rattle.solver.specs.AllKept.{AllKept}
 use Rattle.solver.specs.Fair.{Fair}
 use Rattle.solver.specs.Window.{window}

@@ -6,7 +6,7 @@ use lib.ListN.{length}
 use borrow.Author.Needs.{needs}
 use Rattle.circuit.specs.Limits.{base}
 use Rattle.circuit.specs.Stored.{lent}
-use Rattle.moves.specs.Played.{played}
+use Rattle.solver.specs.Played.{played}
 use Rattle.solver.specs.Solution.{solutionOf}
 use Rattle.solver.proofs.laws.RankTable.{table-long}
 use Rattle.solver.proofs.laws.Replies.{replies-end}

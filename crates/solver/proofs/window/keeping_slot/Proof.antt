@@ -7,7 +7,7 @@ use mathlib.Core.Path.{sym, _∙_}
 use lib.ListN.{getD}
 use Rattle.below.proofs.laws.Passed.{Passed, passed-start, passed-next, passed-found, passed-end}
 use Rattle.game.specs.Rank.{notRanked}
-use Rattle.moves.specs.Played.{ranksIn}
+use Rattle.solver.specs.Played.{ranksIn}
 use Rattle.solver.specs.Window.{window, slotKeeps}
 use borrow.Author.Needs.{needs}
 use Rattle.solver.proofs.window.keeping_slot.Statement.{statement}

@@ -2,7 +2,7 @@
 use native.Mathlib.Omega.{arith}
 use mathlib.Core.Path.{sym, _∙_}
 use Rattle.game.specs.Rank.{notRanked}
-use Rattle.moves.specs.Played.{ranksIn}
+use Rattle.solver.specs.Played.{ranksIn}
 use Rattle.solver.proofs.laws.Window.{state-keeps, none-keeps}
 use borrow.Author.Needs.{needs}
 use Rattle.solver.proofs.window.slot_keeps.Statement.{statement}

@@ -7,16 +7,13 @@ use Rattle.verdict.proofs.page.put_ranks.Statement.{statement}
 use Rattle.verdict.proofs.page.put_ranks.Tie as tie
 
 abbrev Inv-loop : tie.InvT-loop
-Inv-loop page₀ at input controllable latch next output gate left right readings controls states ranks end₀ s₀ page end s = length page ≡ length page₀
+Inv-loop page₀ at states ranks attacks end₀ s₀ page end s = length page ≡ length page₀
 
 abbrev μ-loop : tie.MeasureT-loop
-μ-loop page₀ at input controllable latch next output gate left right readings controls states ranks end₀ s₀ page end s = states - s
+μ-loop page₀ at states ranks attacks end₀ s₀ page end s = states - s
 
 loop-holds : tie.Need-loop-holds Inv-loop μ-loop
 loop-holds c = search needs
-
-attack-lent-requires : tie.Need-attack-lent-requires Inv-loop μ-loop
-attack-lent-requires c κs = search needs
 
 put-rank-requires : tie.Need-put-rank-requires Inv-loop μ-loop
 put-rank-requires c κs = search needs
@@ -43,7 +40,6 @@ put-ranks-spec =
     Inv-loop
     μ-loop
     loop-holds
-    attack-lent-requires
     put-rank-requires
     add-s
     loop-less

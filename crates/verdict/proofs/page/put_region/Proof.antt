@@ -7,10 +7,10 @@ use Rattle.verdict.proofs.page.put_region.Statement.{statement}
 use Rattle.verdict.proofs.page.put_region.Tie as tie
 
 abbrev Inv-loop : tie.InvT-loop
-Inv-loop page₀ at input controllable latch next output gate left right readings controls states ranks end₀ s₀ page end s = length page ≡ length page₀
+Inv-loop page₀ at states readings ranks replies end₀ first₀ s₀ page end first s = length page ≡ length page₀
 
 abbrev μ-loop : tie.MeasureT-loop
-μ-loop page₀ at input controllable latch next output gate left right readings controls states ranks end₀ s₀ page end s = states - s
+μ-loop page₀ at states readings ranks replies end₀ first₀ s₀ page end first s = states - s
 
 loop-holds : tie.Need-loop-holds Inv-loop μ-loop
 loop-holds c = search needs
@@ -23,6 +23,9 @@ put-replies-requires c κs = search needs
 
 put-end-requires : tie.Need-put-end-requires Inv-loop μ-loop
 put-end-requires c κs = search needs
+
+behind-requires : tie.Need-behind-requires Inv-loop μ-loop
+behind-requires c κs = search needs
 
 add-s : tie.Need-add-s Inv-loop μ-loop
 add-s c = search needs
@@ -49,6 +52,7 @@ put-region-spec =
     put-membership-requires
     put-replies-requires
     put-end-requires
+    behind-requires
     add-s
     loop-less
     loop-again

@@ -7,16 +7,19 @@ use Rattle.verdict.proofs.page.put_replies.Statement.{statement}
 use Rattle.verdict.proofs.page.put_replies.Tie as tie
 
 abbrev Inv-loop : tie.InvT-loop
-Inv-loop page₀ at input controllable latch next output gate left right readings controls ranks s end₀ r₀ page end r = length page ≡ length page₀
+Inv-loop page₀ at replies first readings end₀ r₀ page end r = length page ≡ length page₀
 
 abbrev μ-loop : tie.MeasureT-loop
-μ-loop page₀ at input controllable latch next output gate left right readings controls ranks s end₀ r₀ page end r = readings - r
+μ-loop page₀ at replies first readings end₀ r₀ page end r = readings - r
 
 loop-holds : tie.Need-loop-holds Inv-loop μ-loop
 loop-holds c = search needs
 
-reply-lent-requires : tie.Need-reply-lent-requires Inv-loop μ-loop
-reply-lent-requires c κs = search needs
+behind-requires : tie.Need-behind-requires Inv-loop μ-loop
+behind-requires c κs = search needs
+
+byte-at-requires : tie.Need-byte-at-requires Inv-loop μ-loop
+byte-at-requires c κs = search needs
 
 put-small-requires : tie.Need-put-small-requires Inv-loop μ-loop
 put-small-requires c κs = search needs
@@ -43,7 +46,8 @@ put-replies-spec =
     Inv-loop
     μ-loop
     loop-holds
-    reply-lent-requires
+    behind-requires
+    byte-at-requires
     put-small-requires
     add-r
     loop-less

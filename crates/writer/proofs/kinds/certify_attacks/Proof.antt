@@ -4,9 +4,8 @@ use Prim.Native.Nat.{_*_, _^_, _<_}
 use native.Mathlib.Omega.{arith}
 use lib.ListN.{length}
 use Rattle.bits.proofs.laws.Wrote.{wrote-put}
-use Rattle.circuit.specs.Stored.{lent}
 use Rattle.records.specs.Record.{circuitKind, attackKind}
-use Rattle.writer.proofs.laws.Bounds.{solved-small, head-place}
+use Rattle.writer.proofs.laws.Bounds.{head-place}
 use Rattle.writer.proofs.laws.InParts.{no-attack-room, attacks-in-parts}
 use borrow.Author.Needs.{needs}
 use Rattle.writer.proofs.kinds.certify_attacks.Statement.{statement}
@@ -23,13 +22,13 @@ add-if1 : tie.Need-add-if1
 add-if1 c = search needs
 
 mul-if1-2 : tie.Need-mul-if1-2
-mul-if1-2 c = let a = c .before .before .before .before .before .before .before .before .before .before .args in let small = solved-small (c .before .before .before .before .before .before .before .before .before .before .pre .0) in omega (arith, small .fewStates)
+mul-if1-2 c = search needs
 
 add-if1-2 : tie.Need-add-if1-2
-add-if1-2 c = let a = c .before .before .before .before .before .before .before .before .before .before .args in let small = solved-small (c .before .before .before .before .before .before .before .before .before .before .pre .0) in omega (arith, small .fewStates)
+add-if1-2 c = search needs
 
 returns : tie.Need-returns
-returns c = let a = c .before .before .before .before .before .before .before .before .before .before .before .args in no-attack-room (a .file .now) (lent 0 (a .input .now) (a .controllable .now) (a .latch .now) (a .next .now) (a .output) (a .gate .now) (a .left .now) (a .right .now)) (a .states) (a .readings) (a .controls) (a .ranks .now) (c .before .before .before .before .before .before .before .before .before .before .before .pre .0) (a .out .now) (c .before .before .before .before .before .before .before .before .before .before .before .pre .1) (c .if1 .taken)
+returns c = let a = c .before .before .before .before .before .args in λ w attacked. no-attack-room (a .file .now) w (a .states) (a .ranks .now) (a .attacks .now) attacked (a .out .now) (c .if1 .taken)
 
 put-head-requires : tie.Need-put-head-requires
 put-head-requires c κs = search needs
@@ -38,22 +37,22 @@ put-bytes-requires : tie.Need-put-bytes-requires
 put-bytes-requires c κs = search needs
 
 add-circuit : tie.Need-add-circuit
-add-circuit c = let a = c .before .before .before .before .before .before .before .before .before .before .before .before .before .before .before .before .before .before .before .args in omega (arith, room (c .before .before .before .before .before .before .before .before .before .before .before .before .before .before .before .before .before .before .before), c .before .before .before .before .before .before .before .before .if1 .left, head-place (length (a .file .now)) circuitKind (c .before .before .before .before .before .before .put-head .ensures), c .before .before .put-bytes .ensures .0)
+add-circuit c = let a = c .before .before .before .before .before .before .before .before .before .before .before .before .before .args in omega (arith, room (c .before .before .before .before .before .before .before .before .before .before .before .before .before), c .before .before .before .before .before .before .before .before .if1 .left, head-place (length (a .file .now)) circuitKind (c .before .before .before .before .before .before .put-head .ensures), c .before .before .put-bytes .ensures .0)
 
 mul-put-head : tie.Need-mul-put-head
 mul-put-head c = search needs
 
 put-head-requires-2 : tie.Need-put-head-requires-2
-put-head-requires-2 c κs = let a = c .before .before .before .before .before .before .before .before .before .before .before .before .before .before .before .before .before .before .before .before .args in omega (arith, room (c .before .before .before .before .before .before .before .before .before .before .before .before .before .before .before .before .before .before .before .before), c .before .before .before .before .before .before .before .before .before .if1 .left, head-place (length (a .file .now)) circuitKind (c .before .before .before .before .before .before .before .put-head .ensures), c .before .before .before .put-bytes .ensures .0)
+put-head-requires-2 c κs = let a = c .before .before .before .before .before .before .before .before .before .before .before .before .before .before .args in omega (arith, room (c .before .before .before .before .before .before .before .before .before .before .before .before .before .before), c .before .before .before .before .before .before .before .before .before .if1 .left, head-place (length (a .file .now)) circuitKind (c .before .before .before .before .before .before .before .put-head .ensures), c .before .before .before .put-bytes .ensures .0)
 
 put-attacks-requires : tie.Need-put-attacks-requires
-put-attacks-requires c κs = let a = c .before .before .before .before .before .before .before .before .before .before .before .before .before .before .before .before .before .before .before .before .before .before .before .before .args in let small = solved-small (c .before .before .before .before .before .before .before .before .before .before .before .before .before .before .before .before .before .before .before .before .before .before .before .before .pre .0) in (omega (arith, room (c .before .before .before .before .before .before .before .before .before .before .before .before .before .before .before .before .before .before .before .before .before .before .before .before), c .before .before .before .before .before .before .before .before .before .before .before .before .before .if1 .left, head-place (length (a .file .now)) circuitKind (c .before .before .before .before .before .before .before .before .before .before .before .put-head .ensures), c .before .before .before .before .before .before .before .put-bytes .ensures .0, head-place (3 * a .states) attackKind (c .before .before .before .put-head2 .ensures)), small .fewStates)
+put-attacks-requires c κs = let a = c .before .before .before .before .before .before .before .before .before .before .before .before .before .before .before .before .before .before .args in (omega (arith, room (c .before .before .before .before .before .before .before .before .before .before .before .before .before .before .before .before .before .before), c .before .before .before .before .before .before .before .before .before .before .before .before .before .if1 .left, head-place (length (a .file .now)) circuitKind (c .before .before .before .before .before .before .before .before .before .before .before .put-head .ensures), c .before .before .before .before .before .before .before .put-bytes .ensures .0, head-place (3 * a .states) attackKind (c .before .before .before .put-head2 .ensures)), c .before .before .before .before .before .before .before .before .before .before .before .before .before .before .before .before .before .before .pre)
 
 same-length : tie.Need-same-length
 same-length c = search needs
 
 returns-2 : tie.Need-returns-2
-returns-2 c = let a = c .before .before .before .before .before .before .before .before .before .before .before .before .before .before .before .before .before .before .before .before .before .before .before .before .before .before .before .args in attacks-in-parts (a .file .now) (lent 0 (a .input .now) (a .controllable .now) (a .latch .now) (a .next .now) (a .output) (a .gate .now) (a .left .now) (a .right .now)) (a .states) (a .readings) (a .controls) (a .ranks .now) (c .before .before .before .before .before .before .before .before .before .before .before .before .before .before .before .before .before .before .before .before .before .before .before .before .before .before .before .pre .0) (c .before .before .before .before .before .before .before .before .before .before .before .before .before .before .before .before .before .before .before .before .before .before .before .before .before .before .before .pre .1) (c .before .before .before .before .before .before .before .before .before .before .before .before .before .before .before .before .if1 .left) (c .before .before .before .before .before .before .before .before .before .before .before .before .before .before .put-head .ensures) (wrote-put (omega (arith, c .before .before .before .before .before .before .before .before .before .before .put-bytes .ensures .0)) (c .before .before .before .before .before .before .before .before .before .before .put-bytes .ensures .1)) (c .before .before .before .before .before .before .put-head2 .ensures) (c .before .before .put-attacks .ensures)
+returns-2 c = let a = c .before .before .before .before .before .before .before .before .before .before .before .before .before .before .before .before .before .before .before .before .before .args in λ w attacked. attacks-in-parts (a .file .now) w (a .states) (a .ranks .now) (a .attacks .now) attacked (c .before .before .before .before .before .before .before .before .before .before .before .before .before .before .before .before .if1 .left) (c .before .before .before .before .before .before .before .before .before .before .before .before .before .before .put-head .ensures) (wrote-put (omega (arith, c .before .before .before .before .before .before .before .before .before .before .put-bytes .ensures .0)) (c .before .before .before .before .before .before .before .before .before .before .put-bytes .ensures .1)) (c .before .before .before .before .before .before .put-head2 .ensures) (c .before .before .put-attacks .ensures)
 
 pub certify-attacks-spec : {M : Type 1} → statement M
 certify-attacks-spec =

@@ -2,13 +2,14 @@
 -- nothing.
 use Prim.Native.Nat.{_+_, _*_, _/_, _^_, _<_}
 use native.Mathlib.Omega.{arith}
-use lib.ListN.{length}
+use mathlib.Core.Path.{_≡_}
+use lib.ListN.{length, take}
+use lib.Seq.{length-take-le}
 use Rattle.bits.proofs.laws.Wrote.{wrote-put}
-use Rattle.circuit.specs.Stored.{lent}
 use Rattle.records.specs.Record.{circuitKind, regionKind, replyKind}
 use Rattle.solver.specs.Over.{rankZero}
 use Rattle.solver.specs.RegionTable.{regionByte}
-use Rattle.writer.proofs.laws.Bounds.{few-replies, solved-small, head-place, table-place}
+use Rattle.writer.proofs.laws.Bounds.{few-replies, head-place, table-place}
 use Rattle.writer.proofs.laws.InParts.{no-reply-room, replies-in-parts}
 use borrow.Author.Needs.{needs}
 use Rattle.writer.proofs.kinds.certify_replies.Statement.{statement}
@@ -18,11 +19,15 @@ use Rattle.writer.proofs.kinds.certify_replies.Tie as tie
 room : (s : tie.Start) → length (s .args .out .now) < 2 ^ 63
 room s = omega arith
 
-add-region : tie.Need-add-region
-add-region c = let a = c .before .before .before .before .before .before .before .before .before .before .args in let small = solved-small (c .before .before .before .before .before .before .before .before .before .before .pre .0) in omega (arith, small .fewStates)
+-- the replies that are written
+front : (s : tie.Start) → length (take (s .args .states * s .args .readings) (s .args .replies .now)) ≡ s .args .states * s .args .readings
+front s = length-take-le (s .args .states * s .args .readings) (s .args .replies .now) (omega (arith, s .pre .1 .1, few-replies (s .args .states) (s .args .readings) (s .pre .0) (s .pre .1 .0)))
 
-mul-replies : tie.Need-mul-replies
-mul-replies c = let a = c .before .before .before .before .before .before .before .before .before .before .args in let small = solved-small (c .before .before .before .before .before .before .before .before .before .before .pre .0) in omega (arith, few-replies (a .states) (a .readings) (small .fewStates) (small .fewReadings))
+add-region : tie.Need-add-region
+add-region c = search needs
+
+mul-n : tie.Need-mul-n
+mul-n c = let a = c .before .before .before .before .args in omega (arith, few-replies (a .states) (a .readings) (c .before .before .before .before .pre .0) (c .before .before .before .before .pre .1 .0))
 
 mul-if1 : tie.Need-mul-if1
 mul-if1 c = search needs
@@ -34,10 +39,10 @@ add-if1-2 : tie.Need-add-if1-2
 add-if1-2 c = search needs
 
 add-if1-3 : tie.Need-add-if1-3
-add-if1-3 c = let a = c .before .before .before .before .before .before .before .before .before .before .args in let small = solved-small (c .before .before .before .before .before .before .before .before .before .before .pre .0) in omega (arith, few-replies (a .states) (a .readings) (small .fewStates) (small .fewReadings), small .fewStates)
+add-if1-3 c = let a = c .before .before .before .before .args in omega (arith, few-replies (a .states) (a .readings) (c .before .before .before .before .pre .0) (c .before .before .before .before .pre .1 .0), c .before .before .before .before .pre .0)
 
 returns : tie.Need-returns
-returns c = let a = c .before .before .before .before .before .before .before .before .before .before .before .args in no-reply-room (a .file .now) (lent 0 (a .input .now) (a .controllable .now) (a .latch .now) (a .next .now) (a .output) (a .gate .now) (a .left .now) (a .right .now)) (a .states) (a .readings) (a .controls) (a .ranks .now) (c .before .before .before .before .before .before .before .before .before .before .before .pre .0) (a .out .now) (c .before .before .before .before .before .before .before .before .before .before .before .pre .1) (c .if1 .taken)
+returns c = let a = c .before .before .before .before .before .args in λ w replied. no-reply-room (a .file .now) w (a .states) (a .readings) (a .ranks .now) (a .replies .now) replied (a .out .now) (c .if1 .taken)
 
 put-head-requires : tie.Need-put-head-requires
 put-head-requires c κs = search needs
@@ -46,32 +51,39 @@ put-bytes-requires : tie.Need-put-bytes-requires
 put-bytes-requires c κs = search needs
 
 add-circuit : tie.Need-add-circuit
-add-circuit c = let a = c .before .before .before .before .before .before .before .before .before .before .before .before .before .before .before .before .before .before .before .args in omega (arith, room (c .before .before .before .before .before .before .before .before .before .before .before .before .before .before .before .before .before .before .before), c .before .before .before .before .before .before .before .before .if1 .left, head-place (length (a .file .now)) circuitKind (c .before .before .before .before .before .before .put-head .ensures), c .before .before .put-bytes .ensures .0)
+add-circuit c = let a = c .before .before .before .before .before .before .before .before .before .before .before .before .before .args in omega (arith, room (c .before .before .before .before .before .before .before .before .before .before .before .before .before), c .before .before .before .before .before .before .before .before .if1 .left, head-place (length (a .file .now)) circuitKind (c .before .before .before .before .before .before .put-head .ensures), c .before .before .put-bytes .ensures .0)
 
 put-head-requires-2 : tie.Need-put-head-requires-2
-put-head-requires-2 c κs = let a = c .before .before .before .before .before .before .before .before .before .before .before .before .before .before .before .before .before .before .before .before .args in omega (arith, room (c .before .before .before .before .before .before .before .before .before .before .before .before .before .before .before .before .before .before .before .before), c .before .before .before .before .before .before .before .before .before .if1 .left, head-place (length (a .file .now)) circuitKind (c .before .before .before .before .before .before .before .put-head .ensures), c .before .before .before .put-bytes .ensures .0)
+put-head-requires-2 c κs = let a = c .before .before .before .before .before .before .before .before .before .before .before .before .before .before .args in omega (arith, room (c .before .before .before .before .before .before .before .before .before .before .before .before .before .before), c .before .before .before .before .before .before .before .before .before .if1 .left, head-place (length (a .file .now)) circuitKind (c .before .before .before .before .before .before .before .put-head .ensures), c .before .before .before .put-bytes .ensures .0)
 
 put-region-requires : tie.Need-put-region-requires
-put-region-requires c κs = let a = c .before .before .before .before .before .before .before .before .before .before .before .before .before .before .before .before .before .before .before .before .before .before .before .before .args in let small = solved-small (c .before .before .before .before .before .before .before .before .before .before .before .before .before .before .before .before .before .before .before .before .before .before .before .before .pre .0) in (omega (arith, room (c .before .before .before .before .before .before .before .before .before .before .before .before .before .before .before .before .before .before .before .before .before .before .before .before), c .before .before .before .before .before .before .before .before .before .before .before .before .before .if1 .left, head-place (length (a .file .now)) circuitKind (c .before .before .before .before .before .before .before .before .before .before .before .put-head .ensures), c .before .before .before .before .before .before .before .put-bytes .ensures .0, head-place ((a .states + 7) / 8) regionKind (c .before .before .before .put-head2 .ensures)), small .fewStates)
+put-region-requires c κs = let a = c .before .before .before .before .before .before .before .before .before .before .before .before .before .before .before .before .before .before .args in (omega (arith, room (c .before .before .before .before .before .before .before .before .before .before .before .before .before .before .before .before .before .before), c .before .before .before .before .before .before .before .before .before .before .before .before .before .if1 .left, head-place (length (a .file .now)) circuitKind (c .before .before .before .before .before .before .before .before .before .before .before .put-head .ensures), c .before .before .before .before .before .before .before .put-bytes .ensures .0, head-place ((a .states + 7) / 8) regionKind (c .before .before .before .put-head2 .ensures)), c .before .before .before .before .before .before .before .before .before .before .before .before .before .before .before .before .before .before .pre .0)
 
 put-head-requires-3 : tie.Need-put-head-requires-3
-put-head-requires-3 c κs = let a = c .before .before .before .before .before .before .before .before .before .before .before .before .before .before .before .before .before .before .before .before .before .before .before .before .before .before .before .before .args in omega (arith, room (c .before .before .before .before .before .before .before .before .before .before .before .before .before .before .before .before .before .before .before .before .before .before .before .before .before .before .before .before), c .before .before .before .before .before .before .before .before .before .before .before .before .before .before .before .before .before .if1 .left, head-place (length (a .file .now)) circuitKind (c .before .before .before .before .before .before .before .before .before .before .before .before .before .before .before .put-head .ensures), c .before .before .before .before .before .before .before .before .before .before .before .put-bytes .ensures .0, head-place ((a .states + 7) / 8) regionKind (c .before .before .before .before .before .before .before .put-head2 .ensures), table-place (regionByte (rankZero (a .ranks .now)) (a .states)) ((a .states + 7) / 8) (c .before .before .before .put-region .ensures))
+put-head-requires-3 c κs = let a = c .before .before .before .before .before .before .before .before .before .before .before .before .before .before .before .before .before .before .before .before .before .before .args in omega (arith, room (c .before .before .before .before .before .before .before .before .before .before .before .before .before .before .before .before .before .before .before .before .before .before), c .before .before .before .before .before .before .before .before .before .before .before .before .before .before .before .before .before .if1 .left, head-place (length (a .file .now)) circuitKind (c .before .before .before .before .before .before .before .before .before .before .before .before .before .before .before .put-head .ensures), c .before .before .before .before .before .before .before .before .before .before .before .put-bytes .ensures .0, head-place ((a .states + 7) / 8) regionKind (c .before .before .before .before .before .before .before .put-head2 .ensures), table-place (regionByte (rankZero (a .ranks .now)) (a .states)) ((a .states + 7) / 8) (c .before .before .before .put-region .ensures))
 
-put-replies-requires : tie.Need-put-replies-requires
-put-replies-requires c κs = let a = c .before .before .before .before .before .before .before .before .before .before .before .before .before .before .before .before .before .before .before .before .before .before .before .before .before .before .before .before .before .before .before .before .args in let small = solved-small (c .before .before .before .before .before .before .before .before .before .before .before .before .before .before .before .before .before .before .before .before .before .before .before .before .before .before .before .before .before .before .before .before .pre .0) in (omega (arith, room (c .before .before .before .before .before .before .before .before .before .before .before .before .before .before .before .before .before .before .before .before .before .before .before .before .before .before .before .before .before .before .before .before), c .before .before .before .before .before .before .before .before .before .before .before .before .before .before .before .before .before .before .before .before .before .if1 .left, head-place (length (a .file .now)) circuitKind (c .before .before .before .before .before .before .before .before .before .before .before .before .before .before .before .before .before .before .before .put-head .ensures), c .before .before .before .before .before .before .before .before .before .before .before .before .before .before .before .put-bytes .ensures .0, head-place ((a .states + 7) / 8) regionKind (c .before .before .before .before .before .before .before .before .before .before .before .put-head2 .ensures), table-place (regionByte (rankZero (a .ranks .now)) (a .states)) ((a .states + 7) / 8) (c .before .before .before .before .before .before .before .put-region .ensures), head-place (a .states * a .readings) replyKind (c .before .before .before .put-head3 .ensures)), (small .fewStates, (small .someReading, small .fewReadings)))
+slice-aggregate-put-bytes : tie.Need-slice-aggregate-put-bytes
+slice-aggregate-put-bytes c = let long = front (c .before .before .before .before .before .before .before .before .before .before .before .before .before .before .before .before .before .before .before .before .before .before .before .before .before .before .before) in search needs
+
+put-bytes-requires-2 : tie.Need-put-bytes-requires-2
+put-bytes-requires-2 c κs = search needs
+
+add-behind : tie.Need-add-behind
+add-behind c = let a = c .before .before .before .before .before .before .before .before .before .before .before .before .before .before .before .before .before .before .before .before .before .before .before .before .before .before .before .before .before .before .args in omega (arith, room (c .before .before .before .before .before .before .before .before .before .before .before .before .before .before .before .before .before .before .before .before .before .before .before .before .before .before .before .before .before .before), c .before .before .before .before .before .before .before .before .before .before .before .before .before .before .before .before .before .before .before .before .before .before .before .before .before .if1 .left, head-place (length (a .file .now)) circuitKind (c .before .before .before .before .before .before .before .before .before .before .before .before .before .before .before .before .before .before .before .before .before .before .before .put-head .ensures), c .before .before .before .before .before .before .before .before .before .before .before .before .before .before .before .before .before .before .before .put-bytes .ensures .0, head-place ((a .states + 7) / 8) regionKind (c .before .before .before .before .before .before .before .before .before .before .before .before .before .before .before .put-head2 .ensures), table-place (regionByte (rankZero (a .ranks .now)) (a .states)) ((a .states + 7) / 8) (c .before .before .before .before .before .before .before .before .before .before .before .put-region .ensures), head-place (a .states * a .readings) replyKind (c .before .before .before .before .before .before .before .put-head3 .ensures), c .before .before .put-bytes2 .ensures .0, front (c .before .before .before .before .before .before .before .before .before .before .before .before .before .before .before .before .before .before .before .before .before .before .before .before .before .before .before .before .before .before))
 
 same-length : tie.Need-same-length
 same-length c = search needs
 
 returns-2 : tie.Need-returns-2
-returns-2 c = let a = c .before .before .before .before .before .before .before .before .before .before .before .before .before .before .before .before .before .before .before .before .before .before .before .before .before .before .before .before .before .before .before .before .before .before .before .args in replies-in-parts (a .file .now) (lent 0 (a .input .now) (a .controllable .now) (a .latch .now) (a .next .now) (a .output) (a .gate .now) (a .left .now) (a .right .now)) (a .states) (a .readings) (a .controls) (a .ranks .now) (c .before .before .before .before .before .before .before .before .before .before .before .before .before .before .before .before .before .before .before .before .before .before .before .before .before .before .before .before .before .before .before .before .before .before .before .pre .0) (c .before .before .before .before .before .before .before .before .before .before .before .before .before .before .before .before .before .before .before .before .before .before .before .before .before .before .before .before .before .before .before .before .before .before .before .pre .1) (c .before .before .before .before .before .before .before .before .before .before .before .before .before .before .before .before .before .before .before .before .before .before .before .before .if1 .left) (c .before .before .before .before .before .before .before .before .before .before .before .before .before .before .before .before .before .before .before .before .before .before .put-head .ensures) (wrote-put (omega (arith, c .before .before .before .before .before .before .before .before .before .before .before .before .before .before .before .before .before .before .put-bytes .ensures .0)) (c .before .before .before .before .before .before .before .before .before .before .before .before .before .before .before .before .before .before .put-bytes .ensures .1)) (c .before .before .before .before .before .before .before .before .before .before .before .before .before .before .put-head2 .ensures) (c .before .before .before .before .before .before .before .before .before .before .put-region .ensures) (c .before .before .before .before .before .before .put-head3 .ensures) (c .before .before .put-replies .ensures)
+returns-2 c = let a = c .before .before .before .before .before .before .before .before .before .before .before .before .before .before .before .before .before .before .before .before .before .before .before .before .before .before .before .before .before .before .args in λ w replied.
+    replies-in-parts (a .file .now) w (a .states) (a .readings) (a .ranks .now) (a .replies .now) replied (c .before .before .before .before .before .before .before .before .before .before .before .before .before .before .before .before .before .before .before .before .before .before .before .before .before .if1 .left) (c .before .before .before .before .before .before .before .before .before .before .before .before .before .before .before .before .before .before .before .before .before .before .before .put-head .ensures) (wrote-put (omega (arith, c .before .before .before .before .before .before .before .before .before .before .before .before .before .before .before .before .before .before .before .put-bytes .ensures .0)) (c .before .before .before .before .before .before .before .before .before .before .before .before .before .before .before .before .before .before .before .put-bytes .ensures .1)) (c .before .before .before .before .before .before .before .before .before .before .before .before .before .before .before .put-head2 .ensures) (c .before .before .before .before .before .before .before .before .before .before .before .put-region .ensures) (c .before .before .before .before .before .before .before .put-head3 .ensures) (wrote-put (omega (arith, c .before .before .put-bytes2 .ensures .0)) (c .before .before .put-bytes2 .ensures .1))
 
 pub certify-replies-spec : {M : Type 1} → statement M
 certify-replies-spec =
     tie.close
     (tie.spec
     add-region
-    mul-replies
+    mul-n
     mul-if1
     add-if1
     add-if1-2
@@ -83,6 +95,8 @@ certify-replies-spec =
     put-head-requires-2
     put-region-requires
     put-head-requires-3
-    put-replies-requires
+    slice-aggregate-put-bytes
+    put-bytes-requires-2
+    add-behind
     same-length
     returns-2)

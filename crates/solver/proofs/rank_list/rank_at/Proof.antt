@@ -1,10 +1,10 @@
--- `moves::rank_at` meets its contract: a rank that isn't there counts as 0.
+-- `solver::rank_list::rank_at` meets its contract: a rank that isn't there counts as 0.
 use mathlib.Core.Path.{refl, sym}
 use lib.ListN.{List·getD-eq-default}
 use borrow.Author.Needs.{needs}
-use Rattle.moves.specs.Played.{ranksIn}
-use Rattle.moves.proofs.rank_at.Statement.{statement}
-use Rattle.moves.proofs.rank_at.Tie as tie
+use Rattle.solver.specs.Played.{ranksIn}
+use Rattle.solver.proofs.rank_list.rank_at.Statement.{statement}
+use Rattle.solver.proofs.rank_list.rank_at.Tie as tie
 
 mul-result : tie.Need-mul-result
 mul-result c = search needs

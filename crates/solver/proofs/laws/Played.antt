@@ -10,7 +10,7 @@ use Rattle.below.specs.Least.{least, any}
 use Rattle.circuit.specs.Circuit.{Circuit}
 use Rattle.game.specs.Keeps.{keeps, answered}
 use Rattle.game.specs.Rank.{notRanked, defeats}
-use Rattle.moves.specs.Played.{played}
+use Rattle.solver.specs.Played.{played}
 
 leb-not : (a b : ℕ) → leb a b ≡ not (ltb b a)
 leb-not a b = elim (decLt b a) [ yes l ↦ lt-leb a b l ∙ sym (ap not (lt-ltb b a l)) | no l ↦ le-leb a b (omega arith) ∙ sym (ap not (le-ltb b a (omega arith))) ]
