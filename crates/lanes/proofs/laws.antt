@@ -2,5 +2,9 @@ pub mod Lane
 pub mod Control
 pub mod LaneNumber
 pub mod Putting
+pub mod Kept
+pub mod Plain
+pub mod Cleared
 pub mod Block
+pub mod Prepared
 pub mod Decided

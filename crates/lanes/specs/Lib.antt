@@ -1,2 +1,4 @@
 pub mod Lane
 pub mod Block
+pub mod Plain
+pub mod Prepared

@@ -1,25 +1,25 @@
 // The step for 64 controls at once (01, "The game"): lane j of each word is what the step says under control 64 × block + j.
 mod inputs;
+pub mod prepared;
 mod values;
 
 use circuit::Circuit;
-use circuit::stored::literal;
 use inputs::put_inputs;
+use prepared::finish;
 use step::Reading;
-use values::literal_word;
-use values::next_words;
 use values::put_gates;
 use values::put_latches;
 use values::word_at;
 ghost use Prim.Native.Nat.{ℕ, _<_};
 ghost use mathlib.Core.Bool.{false};
 ghost use mathlib.Core.Path.{_≡_};
-ghost use lib.ListN.{length};
 ghost use Rattle.bits.specs.Bit.{oneIf};
-ghost use Rattle.circuit.specs.Limits.{base};
 ghost use Rattle.circuit.specs.Stored.{lent};
 ghost use Rattle.lanes.specs.Block.{BlockOf};
 ghost use Rattle.lanes.specs.Lane.{lane, laneValues, laneNumber};
+
+// A word for each variable, and some behind them.
+pub const WORDS: usize = 1024;
 
 // What 64 steps give: lane j of `error` is an error, lane j of word k of `next` bit k of a next state.
 pub struct Lanes {
@@ -44,7 +44,7 @@ pub fn step_block<'a>(
 ) -> Lanes
     ensures { λ r. ⌜ BlockOf (lent 0 (now (input .entry)) (now (controllable .entry)) (now (latch .entry)) (now (next .entry)) output (now (gate .entry)) (now (left .entry)) (now (right .entry))) state (reading .0) block r ⌝ }
 {
-    let mut words = [0u64; Circuit::VALUES];
+    let mut words = [0u64; WORDS];
     step_in(
         &mut words,
         input,
@@ -83,7 +83,7 @@ pub fn lane_number(words: &[u64], j: usize) -> u16
 }
 
 fn step_in<'a>(
-    words: &mut [u64],
+    words: &mut [u64; WORDS],
     input: &'a [u16],
     controllable: &'a [u8],
     latch: &'a [u16],
@@ -96,16 +96,13 @@ fn step_in<'a>(
     reading: Reading,
     block: usize,
 ) -> Lanes
-    requires { ⌜ base .variable < length (now words) ⌝ }
     requires { ⌜ ((j : ℕ) → laneValues (now words) j ≡ (λ v. false)) ⌝ }
     ensures { λ r. ⌜ BlockOf (lent 0 (now (input .entry)) (now (controllable .entry)) (now (latch .entry)) (now (next .entry)) output (now (gate .entry)) (now (left .entry)) (now (right .entry))) state (reading .0) block r ⌝ }
 {
     put_inputs(words, input, controllable, reading.0, block);
     put_latches(words, latch, next, state);
     put_gates(words, gate, left, right);
-    let error = literal_word(words, literal(output));
-    let after = next_words(words, latch, next);
-    Lanes { error, next: after }
+    finish(words, latch, next, output)
 }
 
 fn one_if(b: bool) -> u16

@@ -3,7 +3,7 @@ use circuit::Circuit;
 use circuit::stored::latches_of;
 use circuit::stored::literal_at;
 ghost use Prim.Native.Nat.{ℕ, _<_};
-ghost use mathlib.Core.Bool.{Bool, _&&_};
+ghost use mathlib.Core.Bool.{_&&_};
 ghost use mathlib.Core.Path.{_≡_};
 ghost use lib.ListN.{length, getD};
 ghost use Rattle.circuit.specs.Limits.{base};
@@ -14,7 +14,7 @@ ghost use Rattle.step.specs.NextIn.{nextIn};
 ghost use Rattle.step.specs.Value.{literalValue, put, withLatches, withGates};
 
 // Every lane true.
-const ALL: u64 = 0xffffffffffffffff;
+pub(crate) const ALL: u64 = 0xffffffffffffffff;
 
 // The same truth in each lane.
 pub(crate) fn all_if(b: bool) -> u64
