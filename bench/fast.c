@@ -4,20 +4,22 @@ typedef unsigned char u8;
 typedef unsigned short u16;
 typedef unsigned long u64;
 
-enum { FILE_BYTES = 16384, VALUES = 1001, LATCHES = 10, INPUTS = 13, STATES = 1024, READINGS = 32, LANES = 64, NOWHERE = 65535 };
+enum { FILE_BYTES = 16384, VALUES = 1001, LATCHES = 10, INPUTS = 13, STATES = 1024, READINGS = 32, LANES = 64, WINDOW = 8 };
+enum { NOWHERE = 65535 };
 
 int open(const char *, int, ...), close(int), rename(const char *, const char *), getpid(void);
 int printf(const char *, ...), snprintf(char *, u64, const char *, ...), strncmp(const char *, const char *, u64);
 long read(int, void *, u64), write(int, const void *, u64);
-void *memcpy(void *, const void *, u64);
+void *memcpy(void *, const void *, u64), *memset(void *, int, u64);
 
 static char file[FILE_BYTES + 1];
 static int length, inputs, latches, gates, uncontrollable, controllable, states, readings, controls;
 static u16 input[INPUTS], latch[LATCHES], next[LATCHES], output, gate[VALUES], left[VALUES], right[VALUES];
 static u8 is_controllable[INPUTS];
 
-static u16 ranks[STATES], kept[STATES * READINGS], led[STATES * READINGS];
-static u64 words[VALUES];
+static u16 ranks[STATES], slots[STATES * READINGS][WINDOW];
+static u8 looked[STATES * READINGS], attacks[STATES];
+static u64 words[VALUES], after[LATCHES], error;
 static u8 certificate[65536];
 static int end;
 
@@ -67,59 +69,63 @@ static void step(int state, int reading, int block) {
         else words[input[i]] = c < 6 ? own[c] : all_if(block >> (c - 6)), c++;
     for (int i = 0; i < latches; i++) words[latch[i]] = all_if(state >> i);
     for (int i = 0; i < gates; i++) words[gate[i]] = value(left[i]) & value(right[i]);
+    for (int i = 0; i < latches; i++) after[i] = value(next[i]);
+    error = value(output);
 }
 
 // The game.
 
 static int unranked(int state, int bound) { return ranks[state] == 0 || bound < ranks[state]; }
 
-// The least control from one on that leads, without an error, to a state that isn't of rank 1 to the bound; or as many as there are.
-static int least_control(int state, int reading, int from, int bound, u16 *leads) {
-    while (from < controls) {
-        int block = from / LANES, stop = controls - block * LANES;
-        step(state, reading, block);
-        u64 after[LATCHES], error = value(output);
-        for (int i = 0; i < latches; i++) after[i] = value(next[i]);
-        if (stop > LANES) stop = LANES;
-        for (int j = from % LANES; j < stop; j++) {
-            if (error >> j & 1) continue;
-            int to = 0;
-            for (int i = 0; i < latches; i++) to |= (after[i] >> j & 1) << i;
-            if (unranked(to, bound)) {
-                *leads = to;
-                return block * LANES + j;
-            }
-        }
-        from = block * LANES + stop;
-    }
-    return controls;
+// The first slot that holds a state which isn't of rank 1 to the bound, or as many as there are slots.
+static int kept(int i, int bound) {
+    for (int j = 0; j < WINDOW; j++)
+        if (slots[i][j] != NOWHERE && unranked(slots[i][j], bound)) return j;
+    return WINDOW;
 }
 
-// Whether a state gets rank k + 1: under some reading no control keeps. A search goes on where the one before ended.
-static int lost(int state, int k) {
-    for (int r = 0; r < readings; r++) {
-        int i = state * readings + r;
-        if (kept[i] < controls && (led[i] == NOWHERE || !unranked(led[i], k))) kept[i] = least_control(state, r, kept[i], k, &led[i]);
-        if (kept[i] == controls) return 1;
+static int state_in(int lane) {
+    int state = 0;
+    for (int i = 0; i < latches; i++) state |= (after[i] >> lane & 1) << i;
+    return state;
+}
+
+// Where the controls of a window lead, by the step for the controls that they are among.
+static void keep(int i, int window) {
+    for (int j = 0; j < WINDOW; j++) {
+        int control = window * WINDOW + j, lane = control % LANES;
+        slots[i][j] = control < controls && !(error >> lane & 1) ? state_in(lane) : NOWHERE;
+    }
+}
+
+// Looks on behind the windows looked at, up to one with a control that leads, without an error, to a state that isn't of rank 1 to the
+// bound. Whether there is one.
+static int look_on(int i, int bound) {
+    for (int fresh = 1; looked[i] * WINDOW < controls; fresh = looked[i] * WINDOW % LANES == 0) {
+        if (fresh) step(i / readings, i % readings, looked[i] * WINDOW / LANES);
+        keep(i, looked[i]++);
+        if (kept(i, bound) < WINDOW) return 1;
     }
     return 0;
+}
+
+// The first reading under which no control keeps, or as many as there are.
+static int defeat(int state, int bound) {
+    for (int r = 0, i = state * readings; r < readings; r++, i++)
+        if (kept(i, bound) == WINDOW && !look_on(i, bound)) return r;
+    return readings;
 }
 
 // A rank given in round k + 1 lies above the bound k, so one table serves both rounds.
 static void solve(void) {
-    for (int i = 0; i < states * readings; i++) led[i] = NOWHERE;
+    memset(slots, 0xff, states * readings * sizeof *slots); // each NOWHERE
     for (int k = 0, changed = 1; changed; k++) {
         changed = 0;
-        for (int s = 0; s < states; s++)
-            if (ranks[s] == 0 && lost(s, k)) ranks[s] = k + 1, changed = 1;
+        for (int s = 0; s < states; s++) {
+            int r = ranks[s] ? readings : defeat(s, k);
+            if (r < readings) ranks[s] = k + 1, attacks[s] = r, changed = 1;
+        }
     }
-}
-
-static int attack(int state) {
-    u16 leads;
-    for (int r = 0; ranks[state] && r < readings; r++)
-        if (least_control(state, r, 0, ranks[state] - 1, &leads) == controls) return r;
-    return 0;
 }
 
 // The certificate.
@@ -135,7 +141,7 @@ static void put_certificate(void) {
     memcpy(certificate + end, file, length), end += length;
     if (ranks[0]) {
         put_head(4, 3 * states);
-        for (int s = 0; s < states; s++) put(ranks[s], 2), put(attack(s), 1);
+        for (int s = 0; s < states; s++) put(ranks[s], 2), put(attacks[s], 1);
         return;
     }
     int bytes = (states + 7) / 8;
@@ -143,10 +149,7 @@ static void put_certificate(void) {
     for (int s = 0; s < states; s++) certificate[end + s / 8] |= (ranks[s] == 0) << s % 8;
     end += bytes;
     put_head(3, states * readings);
-    for (int i = 0; i < states * readings; i++) {
-        u16 leads;
-        put(ranks[i / readings] ? 0 : least_control(i / readings, i % readings, 0, NOWHERE, &leads), 1);
-    }
+    for (int i = 0; i < states * readings; i++) put(ranks[i / readings] ? 0 : (looked[i] - 1) * WINDOW + kept(i, NOWHERE), 1);
 }
 
 int main(int count, char **names) {

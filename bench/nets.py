@@ -4,6 +4,7 @@ import random
 
 LARGEST, LATCHES, SENSORS, CONTROLS = 1000, 10, 5, 8
 GATES = LARGEST - LATCHES - SENSORS - CONTROLS
+CLIMB = 119  # gates of `dense` that aren't random
 
 
 class Net:
@@ -50,6 +51,17 @@ class Net:
             self.both(rng.randrange(2, self.free), rng.randrange(2, self.free))
         return [rng.randrange(2, self.free) for _ in self.latches]
 
+    def mix(self, gates, seed):
+        """Random gates of state and reading up to this many, each of them used. Answers three literals that depend on them."""
+        rng, known = random.Random(seed), [*self.sensors, *self.latches]
+        a, b, c, d, *rest = self.sensors
+        mixed = [self.both(a, b), self.both(c, d), *rest]
+        while len(self.gates) < gates:
+            pair = self.both(*(literal ^ rng.randrange(2) for literal in rng.sample(known, 2)))
+            mixed = [*mixed[1:], self.differ(mixed[0], pair)]
+            known.append(mixed[-1])
+        return mixed
+
     def text(self, after, error):
         inputs = [*self.sensors, *self.controls]
         rows = [f"aag {self.free // 2 - 1} {len(inputs)} {len(self.latches)} 1 {len(self.gates)}", *map(str, inputs),
@@ -87,12 +99,25 @@ def stairs(gates=GATES, sensors=SENSORS, controls=CONTROLS, latches=LATCHES, bit
     one value is lost in each round, from the top; and of each of the 2^C values below it the least control that kept is lost, so that its
     states are looked at again under every reading. That is close to the most looks that any circuit can ask for."""
     net = Net(sensors, controls, latches)
-    low, high = net.latches[:bits], net.latches[bits:]
-    up = [control ^ 1 for control in net.controls] + [0] * len(low)
-    total, over = net.add(low, up, 1)
-    for bit in up[len(low):controls]:
-        over = net.either(over, bit)
-    after = [net.either(bit, over) for bit in total]
-    error = net.every(low)
+    after, error = climb(net, [control ^ 1 for control in net.controls], bits)
     net.fill(gates, 4)
-    return net.text([*after, *high], error)
+    return net.text(after, error)
+
+
+def dense():
+    """Stairs in which every gate is used: which of eight controls sends up by how much is mixed, for each state and reading, by random
+    gates."""
+    net = Net()
+    mixed = net.mix(GATES - CLIMB, 6)
+    up = [control ^ 1 for control in net.controls]
+    up[:len(mixed)] = map(net.differ, up, mixed)
+    return net.text(*climb(net, up, LATCHES))
+
+
+def climb(net, up, bits):
+    """The next states and the error: the first `bits` latches go up by this number and one, at most to their greatest value."""
+    low, high = net.latches[:bits], net.latches[bits:]
+    total, over = net.add(low, up + [0] * len(low), 1)
+    for bit in up[len(low):]:
+        over = net.either(over, bit)
+    return [*(net.either(bit, over) for bit in total), *high], net.every(low)

@@ -1,5 +1,6 @@
-"""How the programs that are measured are built, started and timed: the proved ones (`rt check`), the independent second program
-(`.ci/compare`) and bench/fast.c, which is compiled here with the kit's compiler."""
+"""How the programs that are measured are started and timed: the proved ones (`rt check`) and bench/fast.c as bench/native makes them, and
+the independent second program (`.ci/compare`)."""
+import functools
 import os
 import pathlib
 import platform
@@ -8,19 +9,19 @@ import subprocess
 import sys
 
 sys.path.insert(0, str(pathlib.Path(__file__).resolve().parents[1] / ".ci"))
-from comparison.programs import ROOT, SECOND, start, words_before
+from comparison.programs import ROOT, SECOND
 
 TIMES = 7
 ENOUGH = 2.0  # seconds; a call longer than this isn't repeated
-EMULATED = platform.machine() != "x86_64"
 
 
-def build_fast():
-    """The words that start bench/fast.c, compiled as the proved programs are: for x86-64, and linked by the kit with its C library."""
-    built = ROOT / "target" / "bench" / "fast"
-    built.parent.mkdir(parents=True, exist_ok=True)
-    quiet([ROOT / ".ci" / "compile", built, ROOT / "bench" / "fast.c"])
-    return [*words_before(), built]
+@functools.cache
+def start(program):
+    """The words that start a proved program, or fast, natively."""
+    made = subprocess.run([ROOT / "bench" / "native", program], stdout=subprocess.PIPE, text=True, check=False)
+    if made.returncode != 0:
+        sys.exit(f"{program} can't be made for this processor")
+    return made.stdout.splitlines()
 
 
 def quiet(words):
@@ -50,10 +51,11 @@ def best(*calls, times=TIMES):
 
 
 def machine():
-    """The processor and how busy it is, and how the programs run on it."""
-    kind = platform.machine()
+    """The processor and how busy it is, and what runs on it."""
+    kind, how = platform.machine(), "all native"
+    if kind != "x86_64":
+        how += f"; certify, verify and answers from the LLVM module that the kit compiles for x86-64, compiled for {kind}"
     for line in subprocess.run(["lscpu"], stdout=subprocess.PIPE, text=True, check=False).stdout.splitlines():
         if line.startswith("Model name:"):
             kind = f"{line.split(':')[1].strip()} ({kind})"
-    how = "certify and fast.c under the kit's x86-64 emulator, second native" if EMULATED else "all native"
     return f"{kind}, {os.cpu_count()} processors, load {os.getloadavg()[0]:.1f}; {how}"

@@ -28,7 +28,15 @@ impl Game {
 }
 
 pub fn solve(circuit: &Circuit) -> Game {
-    let mut moves = Moves::new(circuit);
+    solve_by(circuit, Moves::new(circuit))
+}
+
+/// The same, and no step is remembered.
+pub fn solve_plainly(circuit: &Circuit) -> Game {
+    solve_by(circuit, Moves::plain(circuit))
+}
+
+fn solve_by(circuit: &Circuit, mut moves: Moves) -> Game {
     let ranks = ranks(&mut moves);
     let attacks = (0..moves.states).map(|s| attack(&mut moves, &ranks, s));
     let attacks = attacks.collect();

@@ -3,8 +3,9 @@
 
 use second::certificate::checker::check;
 use second::certificate::writer::certificate;
+use second::circuit::Circuit;
 use second::count::Count;
-use second::game::solve;
+use second::game::{solve, solve_plainly, Game};
 use second::listing::{listing, verdict};
 use second::print::print;
 use second::reader::read;
@@ -14,7 +15,7 @@ use std::path::{Path, PathBuf};
 use std::process::ExitCode;
 
 const USAGE: &str = "usage: second listing FILE.. | read FILE.. | print FILE.. | \
-verify FILE CERT .. | certify FILE OUT | generate SEED COUNT DIR | \
+verify FILE CERT .. | certify FILE OUT | plain FILE OUT | generate SEED COUNT DIR | \
 generate-full SEED COUNT DIR | generate-certificates SEED COUNT DIR | count DIR | count-certificates DIR";
 
 /// What went wrong, as one line for standard error.
@@ -41,7 +42,8 @@ fn run(arguments: &[PathBuf]) -> Result<(), Trouble> {
         ("verify", files @ [_, _, ..]) if files.len() % 2 == 0 => {
             each(files, 2, |b| passed(&b[0], &b[1]))
         }
-        ("certify", [file, out]) => certify(file, out),
+        ("certify", [file, out]) => certify(file, out, solve),
+        ("plain", [file, out]) => certify(file, out, solve_plainly),
         ("generate", [seed, count, directory]) => {
             generate(number(seed)?, number(count)?, directory, damage::file)
         }
@@ -101,7 +103,7 @@ fn refused(refusal: Refusal) -> String {
 }
 
 /// Writes the certificate; a refused file leaves OUT unwritten.
-fn certify(file: &Path, out: &Path) -> Result<(), Trouble> {
+fn certify(file: &Path, out: &Path, solve: fn(&Circuit) -> Game) -> Result<(), Trouble> {
     let file = bytes_of(file)?;
     match read(&file) {
         Ok(circuit) => {

@@ -1,5 +1,5 @@
 //! Document 01, "The game": the steps of a circuit, each worked out when it
-//! is first asked for and then remembered.
+//! is first asked for and then remembered, or plainly: each time.
 
 use crate::circuit::Circuit;
 use crate::step::{step, Control, Reading};
@@ -17,32 +17,35 @@ pub struct Moves<'c> {
 
 impl<'c> Moves<'c> {
     pub fn new(circuit: &'c Circuit) -> Self {
-        let states = 1 << circuit.latch_count();
-        let readings = 1 << circuit.uncontrollable_count();
-        let controls = 1 << circuit.controllable_count();
+        let mut moves = Moves::plain(circuit);
+        moves.remembered = vec![NOT_ASKED; moves.states * moves.readings * moves.controls];
+        moves
+    }
+
+    /// Moves that remember nothing.
+    pub fn plain(circuit: &'c Circuit) -> Self {
         Moves {
             circuit,
-            states,
-            readings,
-            controls,
-            remembered: vec![NOT_ASKED; states * readings * controls],
+            states: 1 << circuit.latch_count(),
+            readings: 1 << circuit.uncontrollable_count(),
+            controls: 1 << circuit.controllable_count(),
+            remembered: Vec::new(),
         }
     }
 
     /// The next state, or nothing if the step has error 1.
     pub fn next(&mut self, state: usize, reading: usize, control: usize) -> Option<usize> {
         let index = (state * self.readings + reading) * self.controls + control;
-        if self.remembered[index] == NOT_ASKED {
-            let taken = step(self.circuit, state, Reading(reading), Control(control));
-            self.remembered[index] = if taken.error {
-                ERROR
-            } else {
-                taken.next as u16
-            };
+        match self.remembered.get(index) {
+            Some(&ERROR) => return None,
+            Some(&next) if next != NOT_ASKED => return Some(usize::from(next)),
+            _ => {}
         }
-        match self.remembered[index] {
-            ERROR => None,
-            next => Some(usize::from(next)),
+        let taken = step(self.circuit, state, Reading(reading), Control(control));
+        let next = (!taken.error).then_some(taken.next);
+        if let Some(place) = self.remembered.get_mut(index) {
+            *place = next.map_or(ERROR, |next| next as u16);
         }
+        next
     }
 }

@@ -63,6 +63,12 @@ fn certificates() {
         said(&["certify", "q.aag", "q.cert"], &at),
         "unrealizable 85\n"
     );
+    assert_eq!(
+        said(&["plain", "q.aag", "plain.cert"], &at),
+        "unrealizable 85\n"
+    );
+    let bytes = |name: &str| std::fs::read(at.join(name)).unwrap();
+    assert_eq!(bytes("plain.cert"), bytes("q.cert"));
     assert_eq!(said(&["certify", "e.aag", "e.cert"], &at), "refused 2 1\n");
     assert!(!at.join("e.cert").exists());
     assert_eq!(said(&["verify", "p.aag", "p.cert"], &at), "passed\n");
