@@ -11,3 +11,5 @@ pub mod Counts
 pub mod Solution
 pub mod Attacks
 pub mod Replies
+pub mod PreparedLists
+pub mod Ready

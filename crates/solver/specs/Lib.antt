@@ -8,3 +8,5 @@ pub mod RegionTable
 pub mod Solution
 pub mod AttacksAfter
 pub mod Counts
+pub mod PreparedLists
+pub mod Ready

@@ -3,6 +3,7 @@ mod blocks;
 pub mod counts;
 mod kept;
 pub mod rank_list;
+mod ready;
 pub mod region;
 mod rounds;
 mod window;

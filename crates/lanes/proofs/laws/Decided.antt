@@ -16,8 +16,9 @@ use Rattle.bits.proofs.laws.Digits.{all-below-of}
 use Rattle.circuit.specs.Circuit.{Circuit}
 use Rattle.circuit.specs.Limits.{base}
 use Rattle.lanes.specs.Block.{BlockOf}
-use Rattle.lanes.specs.Lane.{width, lane, laneNumber}
+use Rattle.lanes.specs.Lane.{width, lane, laneNumber, laneValues}
 use Rattle.lanes.specs.declared.Lanes.{Lanes}
+use Rattle.step.specs.Value.{Valuation}
 use Rattle.lanes.proofs.laws.LaneNumber.{laneBit, lane-bit-small}
 
 same-bit : (x y : ℕ) → x < 2 → y < 2 → eqb x 1 ≡ eqb y 1 → x ≡ y
@@ -58,11 +59,20 @@ pub record AreWords (t : Lanes) : Type 0 where
   pub long : length (t .next) ≡ base .latches
   pub next : (k : ℕ) → getD (t .next) k 0 < 2 ^ width
 
-pub block-decided : (c : Circuit) (s r block : ℕ) (t u : Lanes) → AreWords t → AreWords u → BlockOf c s r block t → BlockOf c s r block u → t ≡ u
-block-decided c s r block t u a b p q = λ x. record { error = errors x; next = nexts x }
+-- errors and next states, lane by lane, decide what is answered
+pub lanes-decided : (t u : Lanes) → AreWords t → AreWords u → ((j : ℕ) → j < width → lane (t .error) j ≡ lane (u .error) j) → ((j : ℕ) → j < width → laneNumber (t .next) j ≡ laneNumber (u .next) j) → t ≡ u
+lanes-decided t u a b e n = λ x. record { error = errors x; next = nexts x }
   where
     errors : t .error ≡ u .error
-    errors = word-decided (t .error) (u .error) (a .error) (b .error) (λ j h. p .errors j h ∙ sym (q .errors j h))
+    errors = word-decided (t .error) (u .error) (a .error) (b .error) e
 
     nexts : t .next ≡ u .next
-    nexts = ext-getD 0 (t .next) (u .next) (a .long ∙ sym (b .long)) (λ k h. word-decided (getD (t .next) k 0) (getD (u .next) k 0) (a .next k) (b .next k) (λ j m. lane-decided (t .next) (u .next) j k (omega (arith, a .long)) (p .nexts j m ∙ sym (q .nexts j m))))
+    nexts = ext-getD 0 (t .next) (u .next) (a .long ∙ sym (b .long)) (λ k h. word-decided (getD (t .next) k 0) (getD (u .next) k 0) (a .next k) (b .next k) (λ j m. lane-decided (t .next) (u .next) j k (omega (arith, a .long)) (n j m)))
+
+pub block-decided : (c : Circuit) (s r block : ℕ) (t u : Lanes) → AreWords t → AreWords u → BlockOf c s r block t → BlockOf c s r block u → t ≡ u
+block-decided c s r block t u a b p q = lanes-decided t u a b (λ j h. p .errors j h ∙ sym (q .errors j h)) (λ j h. p .nexts j h ∙ sym (q .nexts j h))
+
+-- the valuations of the lanes decide lent words
+pub words-decided : (a b : List ℕ) → length a ≡ length b → ((k : ℕ) → getD a k 0 < 2 ^ width) → ((k : ℕ) → getD b k 0 < 2 ^ width) → ((j : ℕ) → j < width → laneValues a j ≡ laneValues b j) → a ≡ b
+unfolding laneValues
+words-decided a b long h l e = ext-getD 0 a b long (λ k m. word-decided (getD a k 0) (getD b k 0) (h k) (l k) (λ j w. ap (λ (v : Valuation). v k) (e j w)))

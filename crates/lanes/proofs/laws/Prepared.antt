@@ -33,9 +33,15 @@ record Agree (a b : Valuation) : Type 0 where
   same : (v : ℕ) → 1 ≤ v → v ≤ base .variable → a v ≡ b v
   none : b 0 ≡ false
 
-word-small : (l : ℕ) → l < 2 * words → wordOf l ≡ l / 2
+pub word-small : (l : ℕ) → l < 2 * words → wordOf l ≡ l / 2
 unfolding wordOf
 word-small l h = omega arith
+
+pub literal-within : (l : ℕ) → literalOf l ≤ 2 * base .variable + 1
+literal-within l = elim (decLt (2 * base .variable + 1) l) [ yes h ↦ omega (arith, literal-large l h) | no h ↦ small (omega arith) ]
+  where
+    small : l ≤ 2 * base .variable + 1 → literalOf l ≤ 2 * base .variable + 1
+    small h = omega (arith, literal-small l h)
 
 module _ (a b : Valuation) (agree : Agree a b) where
   -- a literal that names a variable, or is a constant, is the same in both
@@ -53,10 +59,7 @@ module _ (a b : Valuation) (agree : Agree a b) where
   value-agrees l m = elim (decLt l 2) [ yes h ↦ value-constant a l h ∙ sym (value-constant b l h) | no h ↦ literal-agrees l (omega arith) m ]
 
   literalOf-agrees : (l : ℕ) → literalValue a (literalOf l) ≡ literalValue b (literalOf l)
-  literalOf-agrees l = value-agrees (literalOf l) (elim (decLt (2 * base .variable + 1) l) [ yes h ↦ omega (arith, literal-large l h) | no h ↦ small (omega arith) ])
-    where
-      small : l ≤ 2 * base .variable + 1 → literalOf l ≤ 2 * base .variable + 1
-      small h = omega (arith, literal-small l h)
+  literalOf-agrees l = value-agrees (literalOf l) (literal-within l)
 
 above : (b : Valuation) (l : ℕ) → 2 ≤ l → l ≤ 2 * base .variable + 1 → plainValue b l ≡ literalValue b l
 above b l h m = by (odd l) refl

@@ -1,0 +1,20 @@
+-- The gates of a circuit as they are prepared for a solve: literals as a circuit has them, and an own literal that names no variable replaced
+-- by the first one behind those of variables. Assumes nothing.
+use Prim.Native.Nat.{ℕ, _+_, _*_}
+use mathlib.Core.Bool.{cond}
+use mathlib.Core.List.{List}
+use lib.Dec.{ltb}
+use lib.ListN.{getD}
+use Rattle.below.specs.Table.{table}
+use Rattle.circuit.specs.Limits.{base}
+use Rattle.circuit.specs.Stored.{literalOf}
+
+unfoldable pub ownOf : ℕ → ℕ
+ownOf l = cond (ltb (literalOf l) 2) (2 * (base .variable + 1)) (literalOf l)
+
+-- as many as a circuit may have gates; a number that isn't there counts as 0
+unfoldable pub ownsOf : (gate : List ℕ) → List ℕ
+ownsOf gate = table (λ i. ownOf (getD gate i 0)) (base .variable)
+
+unfoldable pub operandsOf : (operand : List ℕ) → List ℕ
+operandsOf operand = table (λ i. literalOf (getD operand i 0)) (base .variable)
