@@ -9,12 +9,13 @@ use Rattle.below.specs.Table.{table}
 use Rattle.circuit.specs.Limits.{base}
 use Rattle.circuit.specs.Stored.{literalOf}
 
-unfoldable pub ownOf : ℕ → ℕ
-ownOf l = cond (ltb (literalOf l) 2) (2 * (base .variable + 1)) (literalOf l)
+-- a literal, or where it is below a number the first one behind those of variables
+unfoldable pub orBehind : (least l : ℕ) → ℕ
+orBehind least l = cond (ltb (literalOf l) least) (2 * (base .variable + 1)) (literalOf l)
 
 -- as many as a circuit may have gates; a number that isn't there counts as 0
 unfoldable pub ownsOf : (gate : List ℕ) → List ℕ
-ownsOf gate = table (λ i. ownOf (getD gate i 0)) (base .variable)
+ownsOf gate = table (λ i. orBehind 2 (getD gate i 0)) (base .variable)
 
 unfoldable pub operandsOf : (operand : List ℕ) → List ℕ
 operandsOf operand = table (λ i. literalOf (getD operand i 0)) (base .variable)

@@ -1,7 +1,9 @@
 // The search for a control that keeps, a block of 64 at a time (01, "The game"): no error, and a next state in the set.
 use crate::rank_list::is_unranked;
+use crate::ready::step_ready;
 use circuit::Circuit;
 use lanes::Lanes;
+use lanes::WORDS;
 use step::Reading;
 ghost use Prim.Native.Nat.{_*_, _-_, _/_, _^_, _<_, _≤_, min};
 ghost use mathlib.Core.Path.{_≡_};
@@ -14,6 +16,7 @@ ghost use Rattle.game.specs.Rank.{notRanked};
 ghost use Rattle.lanes.specs.Block.{BlockOf};
 ghost use Rattle.lanes.specs.Lane.{width};
 ghost use Rattle.solver.specs.Played.{played, ranksIn};
+ghost use Rattle.solver.specs.Ready.{Ready};
 
 // A control that keeps and the steps of its block; or as many as there are controls.
 pub(crate) struct Found {
@@ -23,6 +26,8 @@ pub(crate) struct Found {
 
 // The least control from a number on that keeps.
 pub(crate) fn keeping_from<'a>(
+    words: &mut [u64; WORDS],
+    top: usize,
     input: &'a [u16],
     controllable: &'a [u8],
     latch: &'a [u16],
@@ -38,13 +43,16 @@ pub(crate) fn keeping_from<'a>(
     reading: u8,
     from: usize,
 ) -> Found
-    ensures { λ r. ⌜ (r .control ≡ leastFrom (keeps (played 0 controls (lent 0 (now (input .entry)) (now (controllable .entry)) (now (latch .entry)) (now (next .entry)) output (now (gate .entry)) (now (left .entry)) (now (right .entry)))) (notRanked (ranksIn (now (ranks .entry))) bound) state reading) from (min controls (2 ^ base .controllable))) × (r .control < min controls (2 ^ base .controllable) → BlockOf (lent 0 (now (input .entry)) (now (controllable .entry)) (now (latch .entry)) (now (next .entry)) output (now (gate .entry)) (now (left .entry)) (now (right .entry))) state reading (r .control / width) (r .steps)) ⌝ }
+    requires { ⌜ Ready (now input) (now latch) (now gate) (now left) (now right) top (now words) ⌝ }
+    ensures { λ r. ⌜ (r .control ≡ leastFrom (keeps (played 0 controls (lent 0 (now (input .entry)) (now (controllable .entry)) (now (latch .entry)) (now (next .entry)) output (now (gate .entry)) (now (left .entry)) (now (right .entry)))) (notRanked (ranksIn (now (ranks .entry))) bound) state reading) from (min controls (2 ^ base .controllable))) × (r .control < min controls (2 ^ base .controllable) → BlockOf (lent 0 (now (input .entry)) (now (controllable .entry)) (now (latch .entry)) (now (next .entry)) output (now (gate .entry)) (now (left .entry)) (now (right .entry))) state reading (r .control / width) (r .steps)) × Ready (now (input .entry)) (now (latch .entry)) (now (gate .entry)) (now (left .entry)) (now (right .entry)) top (now (words .exit)) ⌝ }
 {
     let n = below::fewer(controls, Circuit::CONTROLS);
     let mut k = below::fewer(from, n);
     while k < n {
         let block = k / 64;
-        let steps = lanes::step_block(
+        let steps = step_ready(
+            words,
+            top,
             input,
             controllable,
             latch,

@@ -8,6 +8,7 @@ use crate::window::WINDOW;
 use crate::window::keeping_slot;
 use crate::window::put_window;
 use circuit::Circuit;
+use lanes::WORDS;
 ghost use Prim.Native.Nat.{ℕ, _+_, _*_, _/_, _%_, _^_, min, _<_, _≤_};
 ghost use mathlib.Core.Bool.{cond};
 ghost use mathlib.Core.Path.{_≡_};
@@ -22,6 +23,7 @@ ghost use Rattle.game.specs.Rank.{notRanked, defeats};
 ghost use Rattle.solver.specs.Played.{played, ranksIn};
 ghost use Rattle.solver.specs.AllKept.{KeptAt, AllKept};
 ghost use Rattle.solver.specs.Over.{replyOver};
+ghost use Rattle.solver.specs.Ready.{Ready};
 ghost use Rattle.solver.specs.Window.{window, nowhere, slotsAt};
 
 // Before the first look no window was looked at, and nothing is known of where a control leads.
@@ -39,6 +41,8 @@ pub(crate) fn none_led() -> [u16; Circuit::REPLIES * WINDOW]
 
 // The least reading that defeats, or as many as there are.
 pub(crate) fn least_defeat<'a>(
+    words: &mut [u64; WORDS],
+    top: usize,
     input: &'a [u16],
     controllable: &'a [u8],
     latch: &'a [u16],
@@ -55,15 +59,18 @@ pub(crate) fn least_defeat<'a>(
     looked: &mut [u8],
     slots: &mut [u16],
 ) -> usize
+    requires { ⌜ Ready (now input) (now latch) (now gate) (now left) (now right) top (now words) ⌝ }
     requires { ⌜ state < (played readings controls (lent 0 (now input) (now controllable) (now latch) (now next) output (now gate) (now left) (now right))) .states ⌝ }
     requires { ⌜ AllKept (played readings controls (lent 0 (now input) (now controllable) (now latch) (now next) output (now gate) (now left) (now right))) (ranksIn (now ranks)) k (now looked) (now slots) ⌝ }
-    ensures { λ r. ⌜ (r ≡ least (defeats (played readings controls (lent 0 (now (input .entry)) (now (controllable .entry)) (now (latch .entry)) (now (next .entry)) output (now (gate .entry)) (now (left .entry)) (now (right .entry)))) (ranksIn (now (ranks .entry))) k state) (min readings (2 ^ base .uncontrollable))) × AllKept (played readings controls (lent 0 (now (input .entry)) (now (controllable .entry)) (now (latch .entry)) (now (next .entry)) output (now (gate .entry)) (now (left .entry)) (now (right .entry)))) (ranksIn (now (ranks .entry))) k (now (looked .exit)) (now (slots .exit)) ⌝ }
+    ensures { λ r. ⌜ (r ≡ least (defeats (played readings controls (lent 0 (now (input .entry)) (now (controllable .entry)) (now (latch .entry)) (now (next .entry)) output (now (gate .entry)) (now (left .entry)) (now (right .entry)))) (ranksIn (now (ranks .entry))) k state) (min readings (2 ^ base .uncontrollable))) × AllKept (played readings controls (lent 0 (now (input .entry)) (now (controllable .entry)) (now (latch .entry)) (now (next .entry)) output (now (gate .entry)) (now (left .entry)) (now (right .entry)))) (ranksIn (now (ranks .entry))) k (now (looked .exit)) (now (slots .exit)) × Ready (now (input .entry)) (now (latch .entry)) (now (gate .entry)) (now (left .entry)) (now (right .entry)) top (now (words .exit)) ⌝ }
 {
     let n = below::fewer(readings, Circuit::READINGS);
     let first = state as usize * n;
     let mut r = 0;
     while r < n {
         if look_at(
+            words,
+            top,
             input,
             controllable,
             latch,
@@ -91,6 +98,8 @@ pub(crate) fn least_defeat<'a>(
 
 // The replies of the states of rank 0, where no rank is above k.
 pub(crate) fn replies_kept<'a>(
+    words: &mut [u64; WORDS],
+    top: usize,
     input: &'a [u16],
     controllable: &'a [u8],
     latch: &'a [u16],
@@ -107,11 +116,12 @@ pub(crate) fn replies_kept<'a>(
     looked: &'a [u8],
     slots: &'a [u16],
 ) -> [u8; Circuit::REPLIES]
+    requires { ⌜ Ready (now input) (now latch) (now gate) (now left) (now right) top (now words) ⌝ }
     requires { ⌜ 0 < readings ⌝ }
     requires { ⌜ states ≤ (played readings controls (lent 0 (now input) (now controllable) (now latch) (now next) output (now gate) (now left) (now right))) .states ⌝ }
     requires { ⌜ ((t : ℕ) → ranksIn (now ranks) t ≤ k) ⌝ }
     requires { ⌜ AllKept (played readings controls (lent 0 (now input) (now controllable) (now latch) (now next) output (now gate) (now left) (now right))) (ranksIn (now ranks)) k (now looked) (now slots) ⌝ }
-    ensures { λ r. ⌜ r ≡ table (λ i. cond (ltb i (states * min readings (2 ^ base .uncontrollable))) (replyOver (played 0 controls (lent 0 (now (input .entry)) (now (controllable .entry)) (now (latch .entry)) (now (next .entry)) output (now (gate .entry)) (now (left .entry)) (now (right .entry)))) (now (ranks .entry)) (i / min readings (2 ^ base .uncontrollable)) (i % min readings (2 ^ base .uncontrollable))) 0) (2 ^ base .latches * 2 ^ base .uncontrollable) ⌝ }
+    ensures { λ r. ⌜ (r ≡ table (λ i. cond (ltb i (states * min readings (2 ^ base .uncontrollable))) (replyOver (played 0 controls (lent 0 (now (input .entry)) (now (controllable .entry)) (now (latch .entry)) (now (next .entry)) output (now (gate .entry)) (now (left .entry)) (now (right .entry)))) (now (ranks .entry)) (i / min readings (2 ^ base .uncontrollable)) (i % min readings (2 ^ base .uncontrollable))) 0) (2 ^ base .latches * 2 ^ base .uncontrollable)) × Ready (now (input .entry)) (now (latch .entry)) (now (gate .entry)) (now (left .entry)) (now (right .entry)) top (now (words .exit)) ⌝ }
 {
     let width = below::fewer(readings, Circuit::READINGS);
     let n = states * width;
@@ -119,6 +129,8 @@ pub(crate) fn replies_kept<'a>(
     let mut i = 0;
     while i < n {
         let reply = reply_kept(
+            words,
+            top,
             input,
             controllable,
             latch,
@@ -150,6 +162,8 @@ pub(crate) fn no_replies() -> [u8; Circuit::REPLIES]
 
 // The reply at a state and a reading, where no rank is above k.
 fn reply_kept<'a>(
+    words: &mut [u64; WORDS],
+    top: usize,
     input: &'a [u16],
     controllable: &'a [u8],
     latch: &'a [u16],
@@ -167,16 +181,19 @@ fn reply_kept<'a>(
     slots: &'a [u16],
     i: usize,
 ) -> u8
+    requires { ⌜ Ready (now input) (now latch) (now gate) (now left) (now right) top (now words) ⌝ }
     requires { ⌜ ((t : ℕ) → ranksIn (now ranks) t ≤ k) ⌝ }
     requires { ⌜ i < 2 ^ base .latches * 2 ^ base .uncontrollable ⌝ }
     requires { ⌜ length (now slots) ≡ 2 ^ base .latches * 2 ^ base .uncontrollable * window ⌝ }
     requires { ⌜ KeptAt (played 0 controls (lent 0 (now input) (now controllable) (now latch) (now next) output (now gate) (now left) (now right))) (ranksIn (now ranks)) k state reading windows (slotsAt (now slots) i) ⌝ }
-    ensures { λ r. ⌜ r ≡ replyOver (played 0 controls (lent 0 (now (input .entry)) (now (controllable .entry)) (now (latch .entry)) (now (next .entry)) output (now (gate .entry)) (now (left .entry)) (now (right .entry)))) (now (ranks .entry)) state reading ⌝ }
+    ensures { λ r. ⌜ (r ≡ replyOver (played 0 controls (lent 0 (now (input .entry)) (now (controllable .entry)) (now (latch .entry)) (now (next .entry)) output (now (gate .entry)) (now (left .entry)) (now (right .entry)))) (now (ranks .entry)) state reading) × Ready (now (input .entry)) (now (latch .entry)) (now (gate .entry)) (now (left .entry)) (now (right .entry)) top (now (words .exit)) ⌝ }
 {
     if 0 < rank_at(ranks, state as usize) {
         return 0;
     }
     let least = least_kept(
+        words,
+        top,
         input,
         controllable,
         latch,
@@ -199,6 +216,8 @@ fn reply_kept<'a>(
 
 // The least control that keeps: one of the window, or one behind it.
 fn least_kept<'a>(
+    words: &mut [u64; WORDS],
+    top: usize,
     input: &'a [u16],
     controllable: &'a [u8],
     latch: &'a [u16],
@@ -216,16 +235,19 @@ fn least_kept<'a>(
     slots: &'a [u16],
     i: usize,
 ) -> usize
+    requires { ⌜ Ready (now input) (now latch) (now gate) (now left) (now right) top (now words) ⌝ }
     requires { ⌜ i < 2 ^ base .latches * 2 ^ base .uncontrollable ⌝ }
     requires { ⌜ length (now slots) ≡ 2 ^ base .latches * 2 ^ base .uncontrollable * window ⌝ }
     requires { ⌜ KeptAt (played 0 controls (lent 0 (now input) (now controllable) (now latch) (now next) output (now gate) (now left) (now right))) (ranksIn (now ranks)) k state reading windows (slotsAt (now slots) i) ⌝ }
-    ensures { λ r. ⌜ r ≡ least (keeps (played 0 controls (lent 0 (now (input .entry)) (now (controllable .entry)) (now (latch .entry)) (now (next .entry)) output (now (gate .entry)) (now (left .entry)) (now (right .entry)))) (notRanked (ranksIn (now (ranks .entry))) k) state reading) (min controls (2 ^ base .controllable)) ⌝ }
+    ensures { λ r. ⌜ (r ≡ least (keeps (played 0 controls (lent 0 (now (input .entry)) (now (controllable .entry)) (now (latch .entry)) (now (next .entry)) output (now (gate .entry)) (now (left .entry)) (now (right .entry)))) (notRanked (ranksIn (now (ranks .entry))) k) state reading) (min controls (2 ^ base .controllable))) × Ready (now (input .entry)) (now (latch .entry)) (now (gate .entry)) (now (left .entry)) (now (right .entry)) top (now (words .exit)) ⌝ }
 {
     let j = keeping_slot(slots, i * WINDOW, ranks, k);
     if j < WINDOW {
         return (windows as usize - 1) * WINDOW + j;
     }
     let found = keeping_from(
+        words,
+        top,
         input,
         controllable,
         latch,
@@ -246,6 +268,8 @@ fn least_kept<'a>(
 
 // Looks for a control that keeps, at a state and a reading, and keeps its window. Whether the reading defeats.
 fn look_at<'a>(
+    words: &mut [u64; WORDS],
+    top: usize,
     input: &'a [u16],
     controllable: &'a [u8],
     latch: &'a [u16],
@@ -264,17 +288,20 @@ fn look_at<'a>(
     looked: &mut [u8],
     slots: &mut [u16],
 ) -> bool
+    requires { ⌜ Ready (now input) (now latch) (now gate) (now left) (now right) top (now words) ⌝ }
     requires { ⌜ state < (played readings controls (lent 0 (now input) (now controllable) (now latch) (now next) output (now gate) (now left) (now right))) .states ⌝ }
     requires { ⌜ reading < min readings (2 ^ base .uncontrollable) ⌝ }
     requires { ⌜ i ≡ state * min readings (2 ^ base .uncontrollable) + reading ⌝ }
     requires { ⌜ i < 2 ^ base .latches * 2 ^ base .uncontrollable ⌝ }
     requires { ⌜ AllKept (played readings controls (lent 0 (now input) (now controllable) (now latch) (now next) output (now gate) (now left) (now right))) (ranksIn (now ranks)) k (now looked) (now slots) ⌝ }
-    ensures { λ r. ⌜ (r ≡ defeats (played readings controls (lent 0 (now (input .entry)) (now (controllable .entry)) (now (latch .entry)) (now (next .entry)) output (now (gate .entry)) (now (left .entry)) (now (right .entry)))) (ranksIn (now (ranks .entry))) k state reading) × AllKept (played readings controls (lent 0 (now (input .entry)) (now (controllable .entry)) (now (latch .entry)) (now (next .entry)) output (now (gate .entry)) (now (left .entry)) (now (right .entry)))) (ranksIn (now (ranks .entry))) k (now (looked .exit)) (now (slots .exit)) ⌝ }
+    ensures { λ r. ⌜ (r ≡ defeats (played readings controls (lent 0 (now (input .entry)) (now (controllable .entry)) (now (latch .entry)) (now (next .entry)) output (now (gate .entry)) (now (left .entry)) (now (right .entry)))) (ranksIn (now (ranks .entry))) k state reading) × AllKept (played readings controls (lent 0 (now (input .entry)) (now (controllable .entry)) (now (latch .entry)) (now (next .entry)) output (now (gate .entry)) (now (left .entry)) (now (right .entry)))) (ranksIn (now (ranks .entry))) k (now (looked .exit)) (now (slots .exit)) × Ready (now (input .entry)) (now (latch .entry)) (now (gate .entry)) (now (left .entry)) (now (right .entry)) top (now (words .exit)) ⌝ }
 {
     if keeping_slot(slots, i * WINDOW, ranks, k) < WINDOW {
         return false;
     }
     let found = keeping_from(
+        words,
+        top,
         input,
         controllable,
         latch,

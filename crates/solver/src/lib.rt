@@ -10,16 +10,20 @@ mod window;
 
 use circuit::Circuit;
 use kept::no_replies;
+use ready::highest;
+use ready::operands;
+use ready::owns;
 use rounds::no_attacks;
 use rounds::rounds;
 use rounds::zeros;
 ghost use Prim.Native.Nat.{_*_, _^_, _≤_};
 ghost use mathlib.Core.Path.{_≡_};
-ghost use lib.ListN.{take};
+ghost use lib.ListN.{length, take};
 ghost use Rattle.below.specs.Table.{table};
 ghost use Rattle.circuit.specs.Limits.{base};
 ghost use Rattle.circuit.specs.Stored.{lent, meant, solvable};
 ghost use Rattle.game.specs.CircuitGame.{circuitGame, isRealizable};
+ghost use Rattle.lanes.specs.Prepared.{Prepared};
 ghost use Rattle.solver.specs.Over.{found as foundOf};
 ghost use Rattle.solver.specs.RankTable.{rankTable};
 ghost use Rattle.solver.specs.Solution.{solutionOf};
@@ -66,7 +70,7 @@ pub fn realizable(c: Circuit) -> bool
     ranked[0] == 0
 }
 
-// Ranks, replies and attacks of a circuit over lent arrays. A circuit with too many inputs counts as the empty one.
+// Ranks, replies and attacks of a circuit over lent arrays, its gates prepared. A circuit with too many inputs counts as the empty one.
 fn solve_lent<'a>(
     input: &'a [u16],
     controllable: &'a [u8],
@@ -77,6 +81,7 @@ fn solve_lent<'a>(
     left: &'a [u16],
     right: &'a [u16],
 ) -> Solution
+    requires { ⌜ Prepared (now gate) (now left) (now right) ⌝ }
     ensures { λ r. ⌜ r ≡ solutionOf (circuitGame (solvable (lent 0 (now (input .entry)) (now (controllable .entry)) (now (latch .entry)) (now (next .entry)) output (now (gate .entry)) (now (left .entry)) (now (right .entry))))) ⌝ }
 {
     let c = circuit::counts::controllable_count(input, controllable);
@@ -88,7 +93,9 @@ fn solve_lent<'a>(
         return nothing();
     }
     let l = below::fewer(latch.len(), Circuit::LATCHES);
+    let top = highest(gate, highest(latch, highest(input, 0)));
     rounds(
+        top,
         input,
         controllable,
         latch,
@@ -125,7 +132,7 @@ fn found(i: usize, n: usize) -> u8
     if i < n { i as u8 } else { 0 }
 }
 
-// Lends on what lies below the counts.
+// Lends on what lies below the counts, the gates prepared.
 fn solve_counted<'a>(
     inputs: usize,
     input: &'a [u16],
@@ -139,20 +146,24 @@ fn solve_counted<'a>(
     left: &'a [u16],
     right: &'a [u16],
 ) -> Solution
+    requires { ⌜ length (now gate) ≤ base .variable ⌝ }
     ensures { λ r. ⌜ r ≡ solutionOf (circuitGame (solvable (lent 0 (take inputs (now (input .entry))) (now (controllable .entry)) (take latches (now (latch .entry))) (now (next .entry)) output (take gates (now (gate .entry))) (now (left .entry)) (now (right .entry))))) ⌝ }
 {
     let i = below::fewer(inputs, input.len());
     let l = below::fewer(latches, latch.len());
     let g = below::fewer(gates, gate.len());
+    let own = owns(gate);
+    let lefts = operands(left);
+    let rights = operands(right);
     solve_lent(
         &input[..i],
         controllable,
         &latch[..l],
         next,
         output,
-        &gate[..g],
-        left,
-        right,
+        &own[..g],
+        &lefts[..g],
+        &rights[..g],
     )
 }
 

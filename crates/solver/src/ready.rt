@@ -17,7 +17,7 @@ ghost use Rattle.circuit.specs.Limits.{base};
 ghost use Rattle.circuit.specs.Stored.{lent};
 ghost use Rattle.lanes.specs.Block.{BlockOf};
 ghost use Rattle.lanes.specs.Plain.{words as wordCount};
-ghost use Rattle.solver.specs.PreparedLists.{ownOf, ownsOf, operandsOf};
+ghost use Rattle.solver.specs.PreparedLists.{orBehind, ownsOf, operandsOf};
 ghost use Rattle.solver.specs.Ready.{Ready, TopOf};
 
 // The steps of a state and a reading under the controls 64 × block to 64 × block + 63; the words are ready again afterwards.
@@ -59,28 +59,14 @@ pub(crate) fn step_ready<'a>(
 pub(crate) fn owns(gate: &[u16]) -> [u16; Circuit::VARIABLES]
     ensures { λ r. ⌜ r ≡ ownsOf (now (gate .entry)) ⌝ }
 {
-    let mut list = no_literals();
-    let mut i = 0;
-    while i < Circuit::VARIABLES {
-        let l = own_at(gate, i);
-        list[i] = l;
-        i += 1;
-    }
-    list
+    prepared(gate, 2)
 }
 
 // The left or the right operands of gates, prepared.
 pub(crate) fn operands(operand: &[u16]) -> [u16; Circuit::VARIABLES]
     ensures { λ r. ⌜ r ≡ operandsOf (now (operand .entry)) ⌝ }
 {
-    let mut list = no_literals();
-    let mut i = 0;
-    while i < Circuit::VARIABLES {
-        let l = literal_at(operand, i);
-        list[i] = l;
-        i += 1;
-    }
-    list
+    prepared(operand, 0)
 }
 
 // The highest variable of some literals, or a number that is at least as high.
@@ -104,11 +90,29 @@ pub(crate) fn no_words() -> [u64; WORDS]
     [0u64; WORDS]
 }
 
-fn own_at(gate: &[u16], i: usize) -> u16
-    ensures { λ r. ⌜ r ≡ ownOf (getD (now (gate .entry)) i 0) ⌝ }
+// Literals as a circuit has them, but those below a number replaced.
+fn prepared(literals: &[u16], least: u16) -> [u16; Circuit::VARIABLES]
+    ensures { λ r. ⌜ r ≡ table (λ i. orBehind least (getD (now (literals .entry)) i 0)) (base .variable) ⌝ }
 {
-    let l = literal_at(gate, i);
-    if l < 2 { 2 * Circuit::VALUES as u16 } else { l }
+    let mut list = no_literals();
+    let mut i = 0;
+    while i < Circuit::VARIABLES {
+        let l = prepared_at(literals, i, least);
+        list[i] = l;
+        i += 1;
+    }
+    list
+}
+
+fn prepared_at(literals: &[u16], i: usize, least: u16) -> u16
+    ensures { λ r. ⌜ r ≡ orBehind least (getD (now (literals .entry)) i 0) ⌝ }
+{
+    let l = literal_at(literals, i);
+    if l < least {
+        2 * Circuit::VALUES as u16
+    } else {
+        l
+    }
 }
 
 fn greater(a: usize, b: usize) -> usize

@@ -5,7 +5,9 @@ use crate::kept::none_led;
 use crate::kept::none_looked;
 use crate::kept::replies_kept;
 use crate::rank_list::rank_at;
+use crate::ready::no_words;
 use circuit::Circuit;
+use lanes::WORDS;
 ghost use Prim.Native.Nat.{ℕ, _^_, _<_, _≤_};
 ghost use mathlib.Core.Bool.{not};
 ghost use mathlib.Core.Path.{_≡_};
@@ -18,14 +20,17 @@ ghost use Rattle.circuit.specs.Limits.{base};
 ghost use Rattle.circuit.specs.Stored.{lent};
 ghost use Rattle.game.specs.Rank.{round as roundOf};
 ghost use Rattle.solver.specs.Played.{played, ranksIn};
+ghost use Rattle.lanes.specs.Plain.{words as wordCount};
 ghost use Rattle.solver.specs.AllKept.{AllKept};
 ghost use Rattle.solver.specs.Fair.{Fair};
 ghost use Rattle.solver.specs.AttacksAfter.{attackAfter, attacksAfter};
 ghost use Rattle.solver.specs.RankTable.{rankTable, roundTable};
+ghost use Rattle.solver.specs.Ready.{Ready};
 ghost use Rattle.solver.specs.Solution.{attackTable, solutionOf};
 
 // Rounds until one changes nothing: then none after it does.
 pub(crate) fn rounds<'a>(
+    top: usize,
     input: &'a [u16],
     controllable: &'a [u8],
     latch: &'a [u16],
@@ -38,11 +43,13 @@ pub(crate) fn rounds<'a>(
     controls: usize,
     states: usize,
 ) -> Solution
+    requires { ⌜ Ready (now input) (now latch) (now gate) (now left) (now right) top (table (λ v. 0) wordCount) ⌝ }
     requires { ⌜ 0 < readings ⌝ }
     requires { ⌜ 0 < controls ⌝ }
     requires { ⌜ states ≡ 2 ^ latchCount (lent 0 (now input) (now controllable) (now latch) (now next) output (now gate) (now left) (now right)) ⌝ }
     ensures { λ r. ⌜ r ≡ solutionOf (played readings controls (lent 0 (now (input .entry)) (now (controllable .entry)) (now (latch .entry)) (now (next .entry)) output (now (gate .entry)) (now (left .entry)) (now (right .entry)))) ⌝ }
 {
+    let mut words = no_words();
     let mut looked = none_looked();
     let mut slots = none_led();
     let mut attacks = no_attacks();
@@ -50,6 +57,8 @@ pub(crate) fn rounds<'a>(
     let mut k = 0;
     while k < states {
         let after = round(
+            &mut words,
+            top,
             input,
             controllable,
             latch,
@@ -70,6 +79,8 @@ pub(crate) fn rounds<'a>(
         let changed = changes(&ranks, &after, states);
         if !changed {
             return solved(
+                &mut words,
+                top,
                 input,
                 controllable,
                 latch,
@@ -92,6 +103,8 @@ pub(crate) fn rounds<'a>(
         k += 1;
     }
     solved(
+        &mut words,
+        top,
         input,
         controllable,
         latch,
@@ -113,6 +126,8 @@ pub(crate) fn rounds<'a>(
 
 // The solution, where ranks and attacks are the game's: the controls kept are the replies.
 fn solved<'a>(
+    words: &mut [u64; WORDS],
+    top: usize,
     input: &'a [u16],
     controllable: &'a [u8],
     latch: &'a [u16],
@@ -130,6 +145,7 @@ fn solved<'a>(
     looked: &'a [u8],
     slots: &'a [u16],
 ) -> Solution
+    requires { ⌜ Ready (now input) (now latch) (now gate) (now left) (now right) top (now words) ⌝ }
     requires { ⌜ 0 < readings ⌝ }
     requires { ⌜ Fair (played readings controls (lent 0 (now input) (now controllable) (now latch) (now next) output (now gate) (now left) (now right))) states ⌝ }
     requires { ⌜ ranks ≡ rankTable (played readings controls (lent 0 (now input) (now controllable) (now latch) (now next) output (now gate) (now left) (now right))) ⌝ }
@@ -139,6 +155,8 @@ fn solved<'a>(
     ensures { λ r. ⌜ r ≡ solutionOf (played readings controls (lent 0 (now (input .entry)) (now (controllable .entry)) (now (latch .entry)) (now (next .entry)) output (now (gate .entry)) (now (left .entry)) (now (right .entry)))) ⌝ }
 {
     let replies = replies_kept(
+        words,
+        top,
         input,
         controllable,
         latch,
@@ -176,6 +194,8 @@ pub(crate) fn no_attacks() -> [u8; Circuit::STATES]
 
 // A round from the ranks of the one before; what is kept goes on, and a state that gets a rank gets its attack.
 fn round<'a>(
+    words: &mut [u64; WORDS],
+    top: usize,
     input: &'a [u16],
     controllable: &'a [u8],
     latch: &'a [u16],
@@ -193,16 +213,19 @@ fn round<'a>(
     looked: &mut [u8],
     slots: &mut [u16],
 ) -> [u16; Circuit::STATES]
+    requires { ⌜ Ready (now input) (now latch) (now gate) (now left) (now right) top (now words) ⌝ }
     requires { ⌜ k ≤ 2 ^ base .latches ⌝ }
     requires { ⌜ states ≤ (played readings controls (lent 0 (now input) (now controllable) (now latch) (now next) output (now gate) (now left) (now right))) .states ⌝ }
     requires { ⌜ length (now attacks) ≡ 2 ^ base .latches ⌝ }
     requires { ⌜ AllKept (played readings controls (lent 0 (now input) (now controllable) (now latch) (now next) output (now gate) (now left) (now right))) (ranksIn ranks) k (now looked) (now slots) ⌝ }
-    ensures { λ r. ⌜ (r ≡ roundTable (played readings controls (lent 0 (now (input .entry)) (now (controllable .entry)) (now (latch .entry)) (now (next .entry)) output (now (gate .entry)) (now (left .entry)) (now (right .entry)))) states k ranks) × (now (attacks .exit) ≡ attacksAfter (played readings controls (lent 0 (now (input .entry)) (now (controllable .entry)) (now (latch .entry)) (now (next .entry)) output (now (gate .entry)) (now (left .entry)) (now (right .entry)))) states k ranks (now (attacks .entry))) × AllKept (played readings controls (lent 0 (now (input .entry)) (now (controllable .entry)) (now (latch .entry)) (now (next .entry)) output (now (gate .entry)) (now (left .entry)) (now (right .entry)))) (ranksIn ranks) k (now (looked .exit)) (now (slots .exit)) ⌝ }
+    ensures { λ r. ⌜ (r ≡ roundTable (played readings controls (lent 0 (now (input .entry)) (now (controllable .entry)) (now (latch .entry)) (now (next .entry)) output (now (gate .entry)) (now (left .entry)) (now (right .entry)))) states k ranks) × (now (attacks .exit) ≡ attacksAfter (played readings controls (lent 0 (now (input .entry)) (now (controllable .entry)) (now (latch .entry)) (now (next .entry)) output (now (gate .entry)) (now (left .entry)) (now (right .entry)))) states k ranks (now (attacks .entry))) × AllKept (played readings controls (lent 0 (now (input .entry)) (now (controllable .entry)) (now (latch .entry)) (now (next .entry)) output (now (gate .entry)) (now (left .entry)) (now (right .entry)))) (ranksIn ranks) k (now (looked .exit)) (now (slots .exit)) × Ready (now (input .entry)) (now (latch .entry)) (now (gate .entry)) (now (left .entry)) (now (right .entry)) top (now (words .exit)) ⌝ }
 {
     let mut after = ranks;
     let mut s = 0;
     while s < states {
         let given = ranked(
+            words,
+            top,
             input,
             controllable,
             latch,
@@ -235,6 +258,8 @@ struct Given {
 
 // The rank and the attack of a state after round k + 1.
 fn ranked<'a>(
+    words: &mut [u64; WORDS],
+    top: usize,
     input: &'a [u16],
     controllable: &'a [u8],
     latch: &'a [u16],
@@ -252,16 +277,19 @@ fn ranked<'a>(
     looked: &mut [u8],
     slots: &mut [u16],
 ) -> Given
+    requires { ⌜ Ready (now input) (now latch) (now gate) (now left) (now right) top (now words) ⌝ }
     requires { ⌜ k ≤ 2 ^ base .latches ⌝ }
     requires { ⌜ state < (played readings controls (lent 0 (now input) (now controllable) (now latch) (now next) output (now gate) (now left) (now right))) .states ⌝ }
     requires { ⌜ AllKept (played readings controls (lent 0 (now input) (now controllable) (now latch) (now next) output (now gate) (now left) (now right))) (ranksIn (now ranks)) k (now looked) (now slots) ⌝ }
-    ensures { λ r. ⌜ (r .rank ≡ roundOf (played readings controls (lent 0 (now (input .entry)) (now (controllable .entry)) (now (latch .entry)) (now (next .entry)) output (now (gate .entry)) (now (left .entry)) (now (right .entry)))) k (ranksIn (now (ranks .entry))) state) × (r .attack ≡ attackAfter (played readings controls (lent 0 (now (input .entry)) (now (controllable .entry)) (now (latch .entry)) (now (next .entry)) output (now (gate .entry)) (now (left .entry)) (now (right .entry)))) k (now (ranks .entry)) attack state) × AllKept (played readings controls (lent 0 (now (input .entry)) (now (controllable .entry)) (now (latch .entry)) (now (next .entry)) output (now (gate .entry)) (now (left .entry)) (now (right .entry)))) (ranksIn (now (ranks .entry))) k (now (looked .exit)) (now (slots .exit)) ⌝ }
+    ensures { λ r. ⌜ (r .rank ≡ roundOf (played readings controls (lent 0 (now (input .entry)) (now (controllable .entry)) (now (latch .entry)) (now (next .entry)) output (now (gate .entry)) (now (left .entry)) (now (right .entry)))) k (ranksIn (now (ranks .entry))) state) × (r .attack ≡ attackAfter (played readings controls (lent 0 (now (input .entry)) (now (controllable .entry)) (now (latch .entry)) (now (next .entry)) output (now (gate .entry)) (now (left .entry)) (now (right .entry)))) k (now (ranks .entry)) attack state) × AllKept (played readings controls (lent 0 (now (input .entry)) (now (controllable .entry)) (now (latch .entry)) (now (next .entry)) output (now (gate .entry)) (now (left .entry)) (now (right .entry)))) (ranksIn (now (ranks .entry))) k (now (looked .exit)) (now (slots .exit)) × Ready (now (input .entry)) (now (latch .entry)) (now (gate .entry)) (now (left .entry)) (now (right .entry)) top (now (words .exit)) ⌝ }
 {
     let x = rank_at(ranks, state as usize);
     if 0 < x {
         return Given { rank: x, attack };
     }
     let r = least_defeat(
+        words,
+        top,
         input,
         controllable,
         latch,

@@ -3,73 +3,80 @@
 use Prim.Native.Nat.{ℕ, zero, suc, _+_, _*_, _/_, _^_, _≤_, _<_, min}
 use native.Mathlib.Decide.{decLt}
 use native.Mathlib.Omega.{arith}
-use mathlib.Core.Bool.{false, _&&_}
+use mathlib.Core.Bool.{Bool, true, false, cond, _&&_}
 use mathlib.Core.List.{List}
-use mathlib.Core.Path.{_≡_, sym, ap, _∙_}
+use mathlib.Core.Path.{_≡_, refl, sym, ap, _∙_}
 use lib.ListN.{length, getD, take, drop, length-take}
 use lib.Seq.{getD-take}
 use borrow.Author.Tests.{lt-ltb, le-ltb}
 use Rattle.below.specs.Table.{table}
-use Rattle.below.proofs.laws.Table.{length-table, getD-table}
+use Rattle.below.proofs.laws.Table.{length-table, getD-table, table-same}
 use Rattle.below.proofs.laws.Take.{take-table}
-use Rattle.circuit.specs.Circuit.{latchCount}
+use Rattle.circuit.specs.Circuit.{latchCount, uncontrollableCount, controllableCount, tooMany}
 use Rattle.circuit.specs.Limits.{base}
 use Rattle.circuit.specs.Literal.{variable}
-use Rattle.circuit.specs.Stored.{lent, literalOf, inputsOf, latchesOf, gatesOf}
+use Rattle.circuit.specs.Stored.{lent, literalOf, inputsOf, latchesOf, gatesOf, emptyCircuit, solvable}
 use Rattle.circuit.proofs.laws.StoredLiteral.{literal-small, literal-large}
+use Rattle.game.specs.CircuitGame.{circuitGame}
 use Rattle.lanes.specs.Plain.{words}
 use Rattle.lanes.specs.Prepared.{Prepared}
 use Rattle.lanes.proofs.laws.Prepared.{literal-within}
-use Rattle.moves.specs.Played.{played}
+use Rattle.solver.specs.Played.{played}
 use Rattle.step.specs.NextIn.{nextIn}
 use Rattle.step.specs.Step.{step, errorOf, nextOf}
 use Rattle.step.specs.Value.{Valuation, valuation, literalValue, put, withGates, withLatches, withInputs}
 use Rattle.step.proofs.laws.Value.{gates-next, gates-end}
-use Rattle.solver.specs.PreparedLists.{ownOf, ownsOf, operandsOf}
+use Rattle.solver.specs.PreparedLists.{orBehind, ownsOf, operandsOf}
 
 literal-twice : (l : ℕ) → literalOf (literalOf l) ≡ literalOf l
 literal-twice l = literal-small (literalOf l) (literal-within l)
 
+module _ (least l : ℕ) where
+  pub or-behind : literalOf l < least → orBehind least l ≡ 2 * (base .variable + 1)
+  unfolding orBehind
+  or-behind h = rw (lt-ltb (literalOf l) least h)
+
+  pub or-stays : least ≤ literalOf l → orBehind least l ≡ literalOf l
+  unfolding orBehind
+  or-stays h = rw (le-ltb (literalOf l) least h)
+
+-- where none is below the number, all stay
+pub operands-are : (operand : List ℕ) → table (λ i. orBehind 0 (getD operand i 0)) (base .variable) ≡ operandsOf operand
+unfolding operandsOf
+operands-are operand = table-same _ _ (base .variable) (λ i h. or-stays 0 (getD operand i 0) (omega arith))
+
 module _ (l : ℕ) where
-  pub own-constant : literalOf l < 2 → ownOf l ≡ 2 * (base .variable + 1)
-  unfolding ownOf
-  own-constant h = rw (lt-ltb (literalOf l) 2 h)
-
-  pub own-variable : 2 ≤ literalOf l → ownOf l ≡ literalOf l
-  unfolding ownOf
-  own-variable h = rw (le-ltb (literalOf l) 2 h)
-
-  own-within : (2 ≤ ownOf l) × (ownOf l < 2 * words)
-  own-within = elim (decLt (literalOf l) 2) [ yes h ↦ (omega (arith, own-constant h), omega (arith, own-constant h)) | no h ↦ there (omega arith) ]
+  own-within : (2 ≤ orBehind 2 l) × (orBehind 2 l < 2 * words)
+  own-within = elim (decLt (literalOf l) 2) [ yes h ↦ (omega (arith, or-behind 2 l h), omega (arith, or-behind 2 l h)) | no h ↦ there (omega arith) ]
     where
-      there : 2 ≤ literalOf l → (2 ≤ ownOf l) × (ownOf l < 2 * words)
-      there h = (omega (arith, own-variable h), omega (arith, own-variable h, literal-within l))
+      there : 2 ≤ literalOf l → (2 ≤ orBehind 2 l) × (orBehind 2 l < 2 * words)
+      there h = (omega (arith, or-stays 2 l h), omega (arith, or-stays 2 l h, literal-within l))
 
   -- an own literal keeps its variable, which is 0 where it names none
-  own-same : variable (literalOf (ownOf l)) ≡ variable (literalOf l)
+  own-same : variable (literalOf (orBehind 2 l)) ≡ variable (literalOf l)
   unfolding variable
-  own-same = elim (decLt (literalOf l) 2) [ yes h ↦ none h | no h ↦ ap (λ (m : ℕ). m / 2) (ap literalOf (own-variable (omega arith)) ∙ literal-twice l) ]
+  own-same = elim (decLt (literalOf l) 2) [ yes h ↦ none h | no h ↦ ap (λ (m : ℕ). m / 2) (ap literalOf (or-stays 2 l (omega arith)) ∙ literal-twice l) ]
     where
-      none : literalOf l < 2 → literalOf (ownOf l) / 2 ≡ literalOf l / 2
-      none h = omega (arith, literal-large (ownOf l) (omega (arith, own-constant h)))
+      none : literalOf l < 2 → literalOf (orBehind 2 l) / 2 ≡ literalOf l / 2
+      none h = omega (arith, literal-large (orBehind 2 l) (omega (arith, or-behind 2 l h)))
 
 module _ (gate left right : List ℕ) (n : ℕ) (most : n ≤ base .variable) where
-  owns-front : take n (ownsOf gate) ≡ table (λ i. ownOf (getD gate i 0)) n
+  owns-front : take n (ownsOf gate) ≡ table (λ i. orBehind 2 (getD gate i 0)) n
   unfolding ownsOf
-  owns-front = take-table (λ i. ownOf (getD gate i 0)) (base .variable) n most
+  owns-front = take-table (λ i. orBehind 2 (getD gate i 0)) (base .variable) n most
 
   operands-front : (operand : List ℕ) → take n (operandsOf operand) ≡ table (λ i. literalOf (getD operand i 0)) n
   unfolding operandsOf
   operands-front operand = take-table (λ i. literalOf (getD operand i 0)) (base .variable) n most
 
-  owns-long : length (take n (ownsOf gate)) ≡ n
-  owns-long = ap length owns-front ∙ length-table (λ i. ownOf (getD gate i 0)) n
+  pub owns-long : length (take n (ownsOf gate)) ≡ n
+  owns-long = ap length owns-front ∙ length-table (λ i. orBehind 2 (getD gate i 0)) n
 
-  operands-long : (operand : List ℕ) → length (take n (operandsOf operand)) ≡ n
+  pub operands-long : (operand : List ℕ) → length (take n (operandsOf operand)) ≡ n
   operands-long operand = ap length (operands-front operand) ∙ length-table (λ i. literalOf (getD operand i 0)) n
 
-  own-there : (i : ℕ) → i < n → getD (take n (ownsOf gate)) i 0 ≡ ownOf (getD gate i 0)
-  own-there i h = ap (λ (l : List ℕ). getD l i 0) owns-front ∙ getD-table (λ i. ownOf (getD gate i 0)) n i 0 h
+  own-there : (i : ℕ) → i < n → getD (take n (ownsOf gate)) i 0 ≡ orBehind 2 (getD gate i 0)
+  own-there i h = ap (λ (l : List ℕ). getD l i 0) owns-front ∙ getD-table (λ i. orBehind 2 (getD gate i 0)) n i 0 h
 
   operand-there : (operand : List ℕ) (i : ℕ) → i < n → getD (take n (operandsOf operand)) i 0 ≡ literalOf (getD operand i 0)
   operand-there operand i h = ap (λ (l : List ℕ). getD l i 0) (operands-front operand) ∙ getD-table (λ i. literalOf (getD operand i 0)) n i 0 h
@@ -114,3 +121,12 @@ module _ (gate left right : List ℕ) (n : ℕ) (most : n ≤ base .variable) wh
       pub lists-played : (readings controls : ℕ) → played readings controls (lent 0 input controllable latch next output (take n (ownsOf gate)) (take n (operandsOf left)) (take n (operandsOf right))) ≡ played readings controls (lent 0 input controllable latch next output (take n gate) left right)
       unfolding played latchCount lent
       lists-played readings controls = λ x. record { states = 2 ^ latchCount (lent 0 input controllable latch next output gate left right); readings = min readings (2 ^ base .uncontrollable); controls = min controls (2 ^ base .controllable); step = lists-step x }
+
+      -- and so the same game where neither counts as the empty circuit, which both do or none
+      pub lists-game : circuitGame (solvable (lent 0 input controllable latch next output (take n (ownsOf gate)) (take n (operandsOf left)) (take n (operandsOf right)))) ≡ circuitGame (solvable (lent 0 input controllable latch next output (take n gate) left right))
+      unfolding solvable tooMany circuitGame latchCount uncontrollableCount controllableCount lent
+      lists-game = by (tooMany base (lent 0 input controllable latch next output gate left right))
+        where
+          by : (b : Bool) → circuitGame (cond b emptyCircuit (lent 0 input controllable latch next output (take n (ownsOf gate)) (take n (operandsOf left)) (take n (operandsOf right)))) ≡ circuitGame (cond b emptyCircuit (lent 0 input controllable latch next output (take n gate) left right))
+          by true = refl
+          by false = λ x. record { states = 2 ^ latchCount (lent 0 input controllable latch next output gate left right); readings = 2 ^ uncontrollableCount (lent 0 input controllable latch next output gate left right); controls = 2 ^ controllableCount (lent 0 input controllable latch next output gate left right); step = lists-step x }

@@ -19,7 +19,7 @@ unfolding slotsAt
 sub-result c = let j = c .before in
     let s = j .before .before .before .before .before .before .before .before .before .before in
     let a = s .args in
-    omega (arith, kept-windows (a .controls) (lent 0 (a .input .now) (a .controllable .now) (a .latch .now) (a .next .now) (a .output) (a .gate .now) (a .left .now) (a .right .now)) (ranksIn (a .ranks .now)) (a .k) (a .state) (a .reading) (a .windows) (slotsAt (a .slots .now) (a .i)) (s .pre .1 .1) (j .keeping-slot .result) (j .keeping-slot .ensures) (c .if1 .taken))
+    omega (arith, kept-windows (a .controls) (lent 0 (a .input .now) (a .controllable .now) (a .latch .now) (a .next .now) (a .output) (a .gate .now) (a .left .now) (a .right .now)) (ranksIn (a .ranks .now)) (a .k) (a .state) (a .reading) (a .windows) (slotsAt (a .slots .now) (a .i)) (s .pre .1 .1 .1) (j .keeping-slot .result) (j .keeping-slot .ensures) (c .if1 .taken))
 
 mul-result : tie.Need-mul-result
 mul-result c = search needs
@@ -32,20 +32,20 @@ unfolding slotsAt
 returns c = let j = c .before in
     let s = j .before .before .before .before .before .before .before .before .before .before in
     let a = s .args in
-    kept-here (a .controls) (lent 0 (a .input .now) (a .controllable .now) (a .latch .now) (a .next .now) (a .output) (a .gate .now) (a .left .now) (a .right .now)) (ranksIn (a .ranks .now)) (a .k) (a .state) (a .reading) (a .windows) (slotsAt (a .slots .now) (a .i)) (s .pre .1 .1) (j .keeping-slot .result) (j .keeping-slot .ensures) _ (c .if1 .taken) (omega arith)
+    (kept-here (a .controls) (lent 0 (a .input .now) (a .controllable .now) (a .latch .now) (a .next .now) (a .output) (a .gate .now) (a .left .now) (a .right .now)) (ranksIn (a .ranks .now)) (a .k) (a .state) (a .reading) (a .windows) (slotsAt (a .slots .now) (a .i)) (s .pre .1 .1 .1) (j .keeping-slot .result) (j .keeping-slot .ensures) _ (c .if1 .taken) (omega arith), s .pre .0)
 
 mul-keeping-from : tie.Need-mul-keeping-from
 mul-keeping-from c = search needs
 
 keeping-from-requires : tie.Need-keeping-from-requires
-keeping-from-requires c κs = search needs
+keeping-from-requires c κs = c .before .before .before .before .before .before .before .before .before .before .before .before .pre .0
 
 returns-2 : tie.Need-returns-2
 unfolding slotsAt
-returns-2 c = let j = c .before .before in
+returns-2 c = let j = c .before .before .before in
     let s = j .before .before .before .before .before .before .before .before .before .before in
     let a = s .args in
-    kept-on (a .controls) (lent 0 (a .input .now) (a .controllable .now) (a .latch .now) (a .next .now) (a .output) (a .gate .now) (a .left .now) (a .right .now)) (ranksIn (a .ranks .now)) (a .k) (a .state) (a .reading) (a .windows) (slotsAt (a .slots .now) (a .i)) (s .pre .1 .1) (j .keeping-slot .result) (j .keeping-slot .ensures) _ (c .before .if1 .left) (c .keeping-from .ensures .0)
+    (kept-on (a .controls) (lent 0 (a .input .now) (a .controllable .now) (a .latch .now) (a .next .now) (a .output) (a .gate .now) (a .left .now) (a .right .now)) (ranksIn (a .ranks .now)) (a .k) (a .state) (a .reading) (a .windows) (slotsAt (a .slots .now) (a .i)) (s .pre .1 .1 .1) (j .keeping-slot .result) (j .keeping-slot .ensures) _ (c .before .before .if1 .left) (c .keeping-from .ensures .0), c .keeping-from .ensures .2)
 
 pub least-kept-spec : {M : Type 1} → statement M
 least-kept-spec =

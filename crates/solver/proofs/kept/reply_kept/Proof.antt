@@ -12,11 +12,12 @@ rank-at-requires c κs = search needs
 
 returns : tie.Need-returns
 returns c = let x = c .before in
-    let a = x .before .before .before .before .before .before .before .before .before .before .args in
-    no-reply (played 0 (a .controls) (lent 0 (a .input .now) (a .controllable .now) (a .latch .now) (a .next .now) (a .output) (a .gate .now) (a .left .now) (a .right .now))) (a .ranks .now) (a .state) (x .rank-at .result) (x .rank-at .ensures) (a .reading) (c .if1 .taken)
+    let s = x .before .before .before .before .before .before .before .before .before .before in
+    let a = s .args in
+    (no-reply (played 0 (a .controls) (lent 0 (a .input .now) (a .controllable .now) (a .latch .now) (a .next .now) (a .output) (a .gate .now) (a .left .now) (a .right .now))) (a .ranks .now) (a .state) (x .rank-at .result) (x .rank-at .ensures) (a .reading) (c .if1 .taken), s .pre .0)
 
 least-kept-requires : tie.Need-least-kept-requires
-least-kept-requires c κs = search needs
+least-kept-requires c κs = let s = c .before .before .before .before .before .before .before .before .before .before .before .before in (s .pre .0, s .pre .1 .1)
 
 fewer-requires : tie.Need-fewer-requires
 fewer-requires c κs = search needs
@@ -28,10 +29,10 @@ returns-2 : tie.Need-returns-2
 unfolding played
 returns-2 c = let n = c .before in
     let f = n .before in
-    let x = f .before .before in
+    let x = f .before .before .before in
     let s = x .before .before .before .before .before .before .before .before .before .before in
     let a = s .args in
-    reply-found (played 0 (a .controls) (lent 0 (a .input .now) (a .controllable .now) (a .latch .now) (a .next .now) (a .output) (a .gate .now) (a .left .now) (a .right .now))) (a .ranks .now) (a .state) (x .rank-at .result) (x .rank-at .ensures) (a .k) (a .reading) (f .least-kept .result) (n .fewer .result) (c .found .result) (s .pre .0) (f .before .if1 .left) (f .least-kept .ensures) (n .fewer .ensures) (c .found .ensures)
+    (reply-found (played 0 (a .controls) (lent 0 (a .input .now) (a .controllable .now) (a .latch .now) (a .next .now) (a .output) (a .gate .now) (a .left .now) (a .right .now))) (a .ranks .now) (a .state) (x .rank-at .result) (x .rank-at .ensures) (a .k) (a .reading) (f .least-kept .result) (n .fewer .result) (c .found .result) (s .pre .1 .0) (f .before .before .if1 .left) (f .least-kept .ensures .0) (n .fewer .ensures) (c .found .ensures), f .least-kept .ensures .1)
 
 pub reply-kept-spec : {M : Type 1} → statement M
 reply-kept-spec =

@@ -14,20 +14,21 @@ use Rattle.solver.proofs.rounds.solved.Statement.{statement}
 use Rattle.solver.proofs.rounds.solved.Tie as tie
 
 slice-aggregate-replies-kept : tie.Need-slice-aggregate-replies-kept
-slice-aggregate-replies-kept c = let s = c .before .before .before .before .before .before .before .before .before .before in
-    let long : length (s .args .t12) ≡ 2 ^ base .latches = table-long (played (s .args .readings) (s .args .controls) (lent 0 (s .args .input .now) (s .args .controllable .now) (s .args .latch .now) (s .args .next .now) (s .args .output) (s .args .gate .now) (s .args .left .now) (s .args .right .now))) (s .args .t12) (s .pre .1 .1 .0) in
+slice-aggregate-replies-kept c = let s = c .before .before .before .before .before .before .before .before .before .before .before in
+    let a = s .args in
+    let long : length (a .t14) ≡ 2 ^ base .latches = table-long (played (a .readings) (a .controls) (lent 0 (a .input .now) (a .controllable .now) (a .latch .now) (a .next .now) (a .output) (a .gate .now) (a .left .now) (a .right .now))) (a .t14) (s .pre .1 .1 .1 .0) in
     search needs
 
 replies-kept-requires : tie.Need-replies-kept-requires
-replies-kept-requires c κs = let s = c .before .before .before .before .before .before .before .before .before .before in
-    let f = s .pre .1 .0 in
-    (s .pre .0, (omega (arith, f .all), (s .pre .1 .1 .1 .1 .0, s .pre .1 .1 .1 .1 .1)))
+replies-kept-requires c κs = let s = c .before .before .before .before .before .before .before .before .before .before .before in
+    let f = s .pre .1 .1 .0 in
+    (s .pre .0, (s .pre .1 .0, (omega (arith, f .all), (s .pre .1 .1 .1 .1 .1 .0, s .pre .1 .1 .1 .1 .1 .1))))
 
 returns : tie.Need-returns
 unfolding solutionOf
-returns c = let s = c .before .before .before .before .before .before .before .before .before .before .before in
+returns c = let s = c .before .before .before .before .before .before .before .before .before .before .before .before in
     let a = s .args in
-    λ x. record { ranks = s .pre .1 .1 .0 x; replies = (c .replies-kept .ensures ∙ replies-end (a .readings) (a .controls) (a .states) (lent 0 (a .input .now) (a .controllable .now) (a .latch .now) (a .next .now) (a .output) (a .gate .now) (a .left .now) (a .right .now)) (a .t12) (s .pre .0) (s .pre .1 .0) (s .pre .1 .1 .0)) x; attacks = s .pre .1 .1 .1 .0 x }
+    λ x. record { ranks = s .pre .1 .1 .1 .0 x; replies = (c .replies-kept .ensures .0 ∙ replies-end (a .readings) (a .controls) (a .states) (lent 0 (a .input .now) (a .controllable .now) (a .latch .now) (a .next .now) (a .output) (a .gate .now) (a .left .now) (a .right .now)) (a .t14) (s .pre .1 .0) (s .pre .1 .1 .0) (s .pre .1 .1 .1 .0)) x; attacks = s .pre .1 .1 .1 .1 .0 x }
 
 pub solved-spec : {M : Type 1} → statement M
 solved-spec = tie.close (tie.spec slice-aggregate-replies-kept replies-kept-requires returns)
