@@ -319,11 +319,13 @@ fn ranked<'a>(
 
 // Some state's rank differs.
 fn changes<'a>(ranks: &'a [u16], after: &'a [u16], states: usize) -> bool
+    requires { ⌜ states ≤ length (now ranks) ⌝ }
+    requires { ⌜ states ≤ length (now after) ⌝ }
     ensures { λ r. ⌜ r ≡ any (λ s. not (eqb (ranksIn (now (ranks .entry)) s) (ranksIn (now (after .entry)) s))) states ⌝ }
 {
     let mut s = 0;
     while s < states {
-        if rank_at(ranks, s) != rank_at(after, s) {
+        if ranks[s] != after[s] {
             return true;
         }
         s += 1;

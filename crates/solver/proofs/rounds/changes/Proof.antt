@@ -2,7 +2,7 @@
 use Prim.Native.Nat.{_-_}
 use native.Mathlib.Omega.{arith}
 use mathlib.Core.Bool.{not}
-use mathlib.Core.Path.{sym, ap, _∙_}
+use mathlib.Core.Path.{sym, ap}
 use lib.Dec.{eqb}
 use borrow.Author.Tests.{eq-eqb, ne-eqb}
 use borrow.Author.Needs.{needs}
@@ -21,16 +21,23 @@ abbrev μ-loop : tie.MeasureT-loop
 loop-holds : tie.Need-loop-holds Inv-loop μ-loop
 loop-holds c = passed-start _ _
 
-rank-at-requires : tie.Need-rank-at-requires Inv-loop μ-loop
-rank-at-requires c κs = search needs
+mul-if1 : tie.Need-mul-if1 Inv-loop μ-loop
+mul-if1 c = search needs
 
-rank-at-requires-2 : tie.Need-rank-at-requires-2 Inv-loop μ-loop
-rank-at-requires-2 c κs = search needs
+shared-slice-read-if1 : tie.Need-shared-slice-read-if1 Inv-loop μ-loop
+shared-slice-read-if1 c = search needs
+
+mul-if1-2 : tie.Need-mul-if1-2 Inv-loop μ-loop
+mul-if1-2 c = search needs
+
+shared-slice-read-if1-2 : tie.Need-shared-slice-read-if1-2 Inv-loop μ-loop
+shared-slice-read-if1-2 c = search needs
 
 returns : tie.Need-returns Inv-loop μ-loop
+unfolding ranksIn
 returns c = let l = c .before .before .before .before in
-    let a = l .before .before .before .args in
-    sym (any-of (λ t. not (eqb (ranksIn (a .ranks .now) t) (ranksIn (a .after .now) t))) (a .states) (l .loop .s) (omega arith) (ap not (ne-eqb _ _ (λ e. c .if1 .taken (c .before .before .rank-at .ensures ∙ e ∙ sym (c .before .rank-at2 .ensures))))))
+    let a = l .before .args in
+    sym (any-of (λ t. not (eqb (ranksIn (a .ranks .now) t) (ranksIn (a .after .now) t))) (a .states) (l .loop .s) (c .before .before .before .loop-test .taken) (ap not (ne-eqb _ _ (c .if1 .taken))))
 
 add-s : tie.Need-add-s Inv-loop μ-loop
 add-s c = search needs
@@ -39,11 +46,12 @@ loop-less : tie.Need-loop-less Inv-loop μ-loop
 loop-less c = search needs
 
 loop-again : tie.Need-loop-again Inv-loop μ-loop
-loop-again c = let l = c .before .before .before .before in passed-next _ _ (l .loop .s) (l .loop .inv) (omega arith) (ap not (eq-eqb _ _ (sym (c .before .before .rank-at .ensures) ∙ c .if1 .left ∙ c .before .rank-at2 .ensures)))
+unfolding ranksIn
+loop-again c = let l = c .before .before .before .before in passed-next _ _ (l .loop .s) (l .loop .inv) (c .before .before .before .loop-test .taken) (ap not (eq-eqb _ _ (c .if1 .left)))
 
 returns-2 : tie.Need-returns-2 Inv-loop μ-loop
 returns-2 c = let l = c .before in
-    let a = l .before .before .before .args in
+    let a = l .before .args in
     sym (none-any (λ t. not (eqb (ranksIn (a .ranks .now) t) (ranksIn (a .after .now) t))) (a .states) (λ j h. l .loop .inv .none j (omega arith)))
 
 pub changes-spec : {M : Type 1} → statement M
@@ -53,8 +61,10 @@ changes-spec =
     Inv-loop
     μ-loop
     loop-holds
-    rank-at-requires
-    rank-at-requires-2
+    mul-if1
+    shared-slice-read-if1
+    mul-if1-2
+    shared-slice-read-if1-2
     returns
     add-s
     loop-less

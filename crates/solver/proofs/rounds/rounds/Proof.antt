@@ -80,7 +80,10 @@ slice-aggregate-changes-2 c = let r = c .before .before .before .before .before 
     search needs
 
 changes-requires : tie.Need-changes-requires Inv-loop μ-loop
-changes-requires c κs = search needs
+changes-requires c κs = let f = fair (c .before .before .before .before .before .before .before .before .before .before .before .before .before .before .before .before .before .before .before .before .before .before .before .before) in
+    let l = c .before .before .before .before .before .before .before .before .before .before .before .loop in
+    let r = c .before .before .before .before .before .round in
+    (omega (arith, f .few, f .all, ranked-long _ _ _ (l .ranks) (l .inv .0)), omega (arith, f .few, f .all, round-long _ _ _ _ (r .result) (r .ensures .0)))
 
 cast-solved : tie.Need-cast-solved Inv-loop μ-loop
 cast-solved c = let f = fair (c .before .before .before .before .before .before .before .before .before .before .before .before .before .before .before .before .before .before .before .before .before .before .before .before .before .before .before) in omega (arith, c .before .before .before .before .before .before .before .before .before .before .before .before .before .before .loop .inv .0 .within, f .few, f .all)
