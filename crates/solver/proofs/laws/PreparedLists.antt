@@ -1,6 +1,6 @@
 -- Prepared lists of a circuit's gates: they are prepared, and say the same steps. Only the number of an own literal that names no variable
 -- is another. Assumes nothing.
-use Prim.Native.Nat.{ℕ, zero, suc, _+_, _*_, _/_, _^_, _≤_, _<_, min}
+use Prim.Native.Nat.{ℕ, zero, suc, _+_, _*_, _/_, _^_, _≤_, _<_}
 use native.Mathlib.Decide.{decLt}
 use native.Mathlib.Omega.{arith}
 use mathlib.Core.Bool.{Bool, true, false, cond, _&&_}
@@ -21,7 +21,6 @@ use Rattle.game.specs.CircuitGame.{circuitGame}
 use Rattle.lanes.specs.Plain.{words}
 use Rattle.lanes.specs.Prepared.{Prepared}
 use Rattle.lanes.proofs.laws.Prepared.{literal-within}
-use Rattle.solver.specs.Played.{played}
 use Rattle.step.specs.NextIn.{nextIn}
 use Rattle.step.specs.Step.{step, errorOf, nextOf}
 use Rattle.step.specs.Value.{Valuation, valuation, literalValue, put, withGates, withLatches, withInputs}
@@ -117,12 +116,7 @@ module _ (gate left right : List ℕ) (n : ℕ) (most : n ≤ base .variable) wh
       unfolding step errorOf nextOf nextIn lent
       lists-step = λ x. λ s r k. record { error = literalValue (values-same s r k x) (literalOf output); next = nextIn (values-same s r k x) (latchesOf latch next) }
 
-      -- and so the same game
-      pub lists-played : (readings controls : ℕ) → played readings controls (lent 0 input controllable latch next output (take n (ownsOf gate)) (take n (operandsOf left)) (take n (operandsOf right))) ≡ played readings controls (lent 0 input controllable latch next output (take n gate) left right)
-      unfolding played latchCount lent
-      lists-played readings controls = λ x. record { states = 2 ^ latchCount (lent 0 input controllable latch next output gate left right); readings = min readings (2 ^ base .uncontrollable); controls = min controls (2 ^ base .controllable); step = lists-step x }
-
-      -- and so the same game where neither counts as the empty circuit, which both do or none
+      -- and so the same game; both count as the empty circuit, or neither does
       pub lists-game : circuitGame (solvable (lent 0 input controllable latch next output (take n (ownsOf gate)) (take n (operandsOf left)) (take n (operandsOf right)))) ≡ circuitGame (solvable (lent 0 input controllable latch next output (take n gate) left right))
       unfolding solvable tooMany circuitGame latchCount uncontrollableCount controllableCount lent
       lists-game = by (tooMany base (lent 0 input controllable latch next output gate left right))
