@@ -1,15 +1,7 @@
-pub mod Judged
-pub mod FoundLine
-pub mod Position
 pub mod SectionLoop
-pub mod PositionNumber
-pub mod PositionFields
-pub mod PositionSymbol
-pub mod SymbolHere
 pub mod SymbolLoop
 pub mod BodyLoop
 pub mod LinesLoop
 pub mod TextLoop
 pub mod ReadLoop
 pub mod FileLoop
-pub mod UsedLoop

@@ -11,10 +11,10 @@ use Rattle.reader.specs.declared.body.Bodied.{Bodied}
 use Rattle.reader.specs.declared.body.Bodied.the-variants.{Lines, Refused}
 use Rattle.reader.specs.declared.body.Sectioned.{Sectioned}
 use Rattle.reader.specs.declared.body.Sectioned.the-variants.{Done, Refused as SectionRefused}
-use Rattle.reader.specs.declared.line.Cursor.{Cursor}
+use Rattle.fields.specs.declared.line.Cursor.{Cursor}
 use Rattle.text.specs.Header.{Header}
 use Rattle.text.specs.Line.{lines}
-use Rattle.reader.specs.Marks.{Marks}
+use Rattle.fields.specs.Marks.{Marks}
 use Rattle.text.specs.Rules.{inputRule, latchRule, outputRule, gateRule}
 use Rattle.text.specs.Section.{Body, section, onward, used}
 use Rattle.reader.specs.SectionAs.{beginning, inputRow, latchRow, gateRow}

@@ -1,12 +1,6 @@
-pub mod NumberAt
-pub mod RowAt
-pub mod Marks
-pub mod LinedAs
 pub mod SectionAs
-pub mod UsedAs
+pub mod UsedLines
 pub mod BodyRead
-pub mod SymbolAs
-pub mod SymboledAs
 pub mod SymbolsAs
 pub mod TextAt
 pub mod CountedAs

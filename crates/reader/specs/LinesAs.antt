@@ -9,14 +9,14 @@ use Rattle.circuit.specs.Circuit.{Circuit, tooMany}
 use Rattle.circuit.specs.Limits.{base}
 use Rattle.circuit.specs.Outcome.{Outcome, taken, _>>=_, _>>_, refuseIf}
 use Rattle.circuit.specs.declared.FileRead.{FileRead}
-use Rattle.reader.specs.declared.fields.Row.{Row}
-use Rattle.reader.specs.declared.fields.Row.the-variants.{Of, Bad}
-use Rattle.reader.specs.declared.line.Cursor.{Cursor}
+use Rattle.fields.specs.declared.row.Row.{Row}
+use Rattle.fields.specs.declared.row.Row.the-variants.{Of, Bad}
+use Rattle.fields.specs.declared.line.Cursor.{Cursor}
 use Rattle.text.specs.Header.{Header, headerNumbers}
 use Rattle.text.specs.Line.{lines}
 use Rattle.text.specs.Numbers.{tooManyInputs}
 use Rattle.text.specs.Read.{linesRead}
-use Rattle.reader.specs.RowAt.{Small}
+use Rattle.fields.specs.RowAt.{Small}
 use Rattle.text.specs.TextFile.{TextFile, circuitOf}
 
 -- the header's five numbers

@@ -8,9 +8,9 @@ use Rattle.circuit.specs.Limits.{base}
 use Rattle.circuit.specs.Outcome.{taken, refused}
 use Rattle.reader.specs.declared.body.Sectioned.{Sectioned}
 use Rattle.reader.specs.declared.body.Sectioned.the-variants.{Done, Refused}
-use Rattle.reader.specs.declared.line.Cursor.{Cursor}
+use Rattle.fields.specs.declared.line.Cursor.{Cursor}
 use Rattle.text.specs.Line.{lines}
-use Rattle.reader.specs.Marks.{Marks}
+use Rattle.fields.specs.Marks.{Marks}
 use Rattle.text.specs.Rules.{Rule}
 use Rattle.text.specs.Section.{Body, section}
 

@@ -4,14 +4,19 @@ use mathlib.Core.List.{List, []}
 use mathlib.Core.Option.{Option}
 use mathlib.Core.Path.{_≡_}
 use lib.ListN.{length, getD, drop}
+use Rattle.bits.specs.Bit.{oneIf}
 use Rattle.circuit.specs.Limits.{base}
 use Rattle.circuit.specs.Outcome.{taken, refused}
 use Rattle.reader.specs.declared.body.Sectioned.{Sectioned}
 use Rattle.reader.specs.declared.body.Sectioned.the-variants.{Done, Refused}
-use Rattle.reader.specs.declared.line.Cursor.{Cursor}
+use Rattle.fields.specs.declared.line.Cursor.{Cursor}
 use Rattle.text.specs.Line.{lines}
-use Rattle.text.specs.Symbol.{Symbol, symbolLines}
-use Rattle.reader.specs.SymbolAs.{Flags, counted}
+use Rattle.text.specs.Symbol.{Symbol, symbolLines, isControllable}
+use Rattle.lines.specs.Named.{counted}
+
+-- a flag for each input: 1 exactly if some symbols make it controllable
+unfoldable pub Flags : (inputs : ℕ) → List ℕ → List Symbol → Type 0
+Flags inputs flags seen = (position : ℕ) → position < inputs → getD flags position 0 ≡ oneIf (isControllable seen position)
 
 -- what reading the symbols may count on: counts within the limits, nothing marked yet, a place within the file
 pub record SymbolRoom (file : List ℕ) (from : Cursor) (inputs latches : ℕ) (marks flags : List ℕ) : Type 0 where

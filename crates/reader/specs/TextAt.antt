@@ -9,13 +9,13 @@ use Rattle.circuit.specs.Limits.{base}
 use Rattle.circuit.specs.Outcome.{taken, refused}
 use Rattle.reader.specs.declared.body.Bodied.{Bodied}
 use Rattle.reader.specs.declared.body.Bodied.the-variants.{Lines, Refused}
-use Rattle.reader.specs.declared.line.Cursor.{Cursor}
+use Rattle.fields.specs.declared.line.Cursor.{Cursor}
 use Rattle.text.specs.Header.{Header}
 use Rattle.text.specs.Line.{lines}
 use Rattle.text.specs.Read.{linesRead}
 use Rattle.text.specs.Symbol.{symbolLines}
-use Rattle.reader.specs.SymbolAs.{Flags, counted}
-use Rattle.reader.specs.SymbolsAs.{SymbolsRead}
+use Rattle.reader.specs.SymbolsAs.{Flags, SymbolsRead}
+use Rattle.lines.specs.Named.{counted}
 use Rattle.text.specs.TextFile.{TextFile}
 
 -- latches and gates as the code holds them

@@ -1,36 +1,24 @@
-// One line before the symbols (01, "The file", rule 2): its numbers, or the first of 4, 5, 6 and 7 that applies to it.
-use crate::fields::Row;
-use crate::fields::one;
-use crate::fields::three;
-use crate::fields::two;
-use crate::judge::bad_own;
-use crate::judge::either;
-use crate::judge::first_of;
-use crate::judge::is_marked;
-use crate::judge::is_unknown;
-use crate::judge::too_large;
-use crate::line::Cursor;
-use crate::line::line_end;
-use crate::symbols::first_unknown;
-use crate::symbols::widen;
+// The lines before the symbols, section by section (01, "The file", rule 2), and the late 7 (01, "The numbers").
 use circuit::Refusal;
-ghost use Prim.Native.Nat.{ℕ, _≤_};
+use fields::judge::is_unknown;
+use fields::line::Cursor;
+use fields::line::line_end;
+use fields::used::first_unknown;
+use fields::used::widen;
+use lines::body::Lined;
+use lines::body::gate_line;
+use lines::body::input_line;
+use lines::body::latch_line;
+use lines::body::output_line;
+ghost use Prim.Native.Nat.{_≤_};
 ghost use mathlib.Core.Path.{_≡_};
 ghost use lib.ListN.{length, set};
+ghost use Rattle.circuit.specs.Limits.{base};
 ghost use Rattle.circuit.specs.Literal.{variable};
 ghost use Rattle.reader.specs.BodyRead.{FirstRoom, FirstAs, LastRoom, LastAs, BodyRoom, BodiedAs, headerWith};
-ghost use Rattle.reader.specs.UsedAs.{UsedLines};
 ghost use Rattle.reader.specs.SectionAs.{SectionAs, Room, inputRow, latchRow, gateRow};
-ghost use Rattle.circuit.specs.Limits.{base};
-ghost use Rattle.reader.specs.LinedAs.{LinedAs};
-ghost use Rattle.text.specs.Rules.{inputRule, latchRule, outputRule, gateRule};
-ghost use mathlib.Core.List.{List};
-
-// A line's literals; what isn't there is 0.
-pub enum Lined {
-    Row(u16, u16, u16),
-    Fault(u8),
-}
+ghost use Rattle.reader.specs.UsedLines.{UsedLines};
+ghost use Rattle.text.specs.Rules.{inputRule, latchRule, gateRule};
 
 // How a section came out: the cursor behind it, or a refusal.
 pub enum Sectioned {
@@ -38,75 +26,8 @@ pub enum Sectioned {
     Refused(Refusal),
 }
 
-fn input_line(line: &[u8], m: u16, defined: &[u8]) -> Lined
-    requires { ⌜ m ≤ base .variable ⌝ }
-    ensures { λ r. ⌜ LinedAs (inputRule m) (now (defined .entry)) (now (line .entry)) r ⌝ }
-{
-    let Row::Of(own, _, _, _, _) = one(line) else {
-        return Lined::Fault(4);
-    };
-    let bad = bad_own(m, own);
-    let twice = is_marked(defined, own);
-    let number = first_of(bad, twice, false);
-    if number == 0 {
-        return Lined::Row(own as u16, 0, 0);
-    }
-    Lined::Fault(number)
-}
-
-fn latch_line(line: &[u8], m: u16, defined: &[u8]) -> Lined
-    requires { ⌜ m ≤ base .variable ⌝ }
-    ensures { λ r. ⌜ LinedAs (latchRule m) (now (defined .entry)) (now (line .entry)) r ⌝ }
-{
-    let Row::Of(own, next, _, _, _) = two(line) else {
-        return Lined::Fault(4);
-    };
-    let bad = either(bad_own(m, own), too_large(m, next));
-    let twice = is_marked(defined, own);
-    let number = first_of(bad, twice, false);
-    if number == 0 {
-        return Lined::Row(own as u16, next as u16, 0);
-    }
-    Lined::Fault(number)
-}
-
-fn output_line(line: &[u8], m: u16) -> Lined
-    requires { ⌜ m ≤ base .variable ⌝ }
-    ensures { λ r. ⌜ ((marks : List ℕ) → LinedAs (outputRule m) marks (now (line .entry)) r) ⌝ }
-{
-    let Row::Of(literal, _, _, _, _) = one(line) else {
-        return Lined::Fault(4);
-    };
-    let large = too_large(m, literal);
-    let number = first_of(large, false, false);
-    if number == 0 {
-        return Lined::Row(literal as u16, 0, 0);
-    }
-    Lined::Fault(number)
-}
-
-fn gate_line(line: &[u8], m: u16, defined: &[u8]) -> Lined
-    requires { ⌜ m ≤ base .variable ⌝ }
-    ensures { λ r. ⌜ LinedAs (gateRule m) (now (defined .entry)) (now (line .entry)) r ⌝ }
-{
-    let Row::Of(own, left, right, _, _) = three(line) else {
-        return Lined::Fault(4);
-    };
-    let bad = either(
-        either(bad_own(m, own), too_large(m, left)),
-        too_large(m, right),
-    );
-    let twice = is_marked(defined, own);
-    let unknown = either(is_unknown(defined, left), is_unknown(defined, right));
-    let number = first_of(bad, twice, unknown);
-    if number == 0 {
-        return Lined::Row(own as u16, left as u16, right as u16);
-    }
-    Lined::Fault(number)
-}
-
 // Marks a literal's variable as defined.
-fn mark(defined: &mut [u8], own: u16)
+fn mark(defined: &mut [u8], own: u32)
     ensures { λ r. ⌜ now (defined .exit) ≡ set (now (defined .entry)) (variable own) 1 ⌝ }
 {
     let v = (own / 2) as usize;
@@ -133,7 +54,7 @@ fn input_lines(s: &[u8], from: Cursor, m: u16, defined: &mut [u8], input: &mut [
                 });
             }
             Lined::Row(own, _, _) => {
-                input[i] = own;
+                input[i] = own as u16;
                 mark(defined, own);
             }
         }
@@ -170,8 +91,8 @@ fn latch_lines(
                 });
             }
             Lined::Row(own, then, _) => {
-                latch[i] = own;
-                next[i] = then;
+                latch[i] = own as u16;
+                next[i] = then as u16;
                 mark(defined, own);
             }
         }
@@ -210,9 +131,9 @@ fn gate_lines(
                 });
             }
             Lined::Row(own, a, b) => {
-                gate[i] = own;
-                left[i] = a;
-                right[i] = b;
+                gate[i] = own as u16;
+                left[i] = a as u16;
+                right[i] = b as u16;
                 mark(defined, own);
             }
         }
@@ -272,11 +193,12 @@ fn last_lines(
     match output_line(&s[at..end], m) {
         Lined::Fault(number) => refusal(number, from.line),
         Lined::Row(output, _, _) => {
+            let literal = output as u16;
             let line = from.line + 1;
             let behind = Cursor { at: end, line };
             match gate_lines(s, behind, m, defined, gate, left, right) {
                 Sectioned::Refused(r) => Bodied::Refused(r),
-                Sectioned::Done(last) => Bodied::Lines(last, output),
+                Sectioned::Done(last) => Bodied::Lines(last, literal),
             }
         }
     }

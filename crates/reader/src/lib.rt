@@ -1,8 +1,5 @@
-// The reader of the text form (01, "The file" and "The numbers"): any list of bytes is met.
+// The reader of the text form (01, "The file" and "The numbers"): any list of bytes is met. What stands in a line has the crate `fields`,
+// what one line says the crate `lines`.
 mod body;
-mod fields;
-mod judge;
-mod line;
-mod number;
 pub mod read;
 mod symbols;

@@ -2,11 +2,6 @@
 use crate::body::Bodied;
 use crate::body::Sectioned;
 use crate::body::body_lines;
-use crate::fields::Row;
-use crate::fields::five_at;
-use crate::line::Cursor;
-use crate::line::line_end;
-use crate::symbols::starts_with;
 use crate::symbols::symbol_lines;
 use circuit::Circuit;
 use circuit::FileRead;
@@ -15,6 +10,11 @@ use circuit::Refusal;
 use circuit::counts::controllable_count;
 use circuit::counts::too_many;
 use circuit::counts::uncontrollable_count;
+use fields::line::Cursor;
+use fields::line::line_end;
+use fields::name::starts_with;
+use fields::row::Row;
+use fields::row::five_at;
 ghost use Prim.Native.Nat.{_+_, _≤_};
 ghost use mathlib.Core.List.{[], _∷_};
 ghost use mathlib.Core.Path.{_≡_};
@@ -28,7 +28,7 @@ ghost use Rattle.reader.specs.CountedAs.{CountedAs};
 ghost use Rattle.text.specs.Header.{withinLimits, headerOf};
 ghost use Rattle.reader.specs.LinesAs.{LinesRoom, LinesAs, HeaderAs};
 ghost use Rattle.text.specs.Read.{circuitRead};
-ghost use Rattle.reader.specs.RowAt.{Small};
+ghost use Rattle.fields.specs.RowAt.{Small};
 ghost use Rattle.reader.specs.TextAt.{NameRoom, NamedAs, TextRoom, TextAs};
 
 // Nothing is marked: a byte for each variable, and one for each position that a symbol can name.

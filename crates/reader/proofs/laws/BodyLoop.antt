@@ -14,20 +14,21 @@ use Rattle.reader.specs.declared.body.Bodied.the-variants.{Lines, Refuse
 use Rattle.reader.specs.declared.body.Sectioned.{Sectioned}
 use Rattle.reader.specs.declared.body.Sectioned.the-variants.{Done, Refused as SectionRefused}
 use Rattle.reader.specs.BodyRead.{headerWith, firstRead, lastRead, bodyRead, FirstAt, FirstAs, LastAt, LastAs, BodiedAs}
-use Rattle.reader.specs.declared.line.Cursor.{Cursor}
+use Rattle.fields.specs.declared.line.Cursor.{Cursor}
 use Rattle.text.specs.Line.{lines, firstLine, numbersOf}
-use Rattle.reader.specs.LinedAs.{LinedAs}
-use Rattle.reader.specs.declared.body.Lined.the-variants.{Fault}
-use Rattle.reader.specs.Marks.{Marks, unmarked}
+use Rattle.lines.specs.LinedAs.{LinedAs}
+use Rattle.lines.specs.declared.body.Lined.the-variants.{Fault}
+use Rattle.fields.specs.Marks.{Marks, unmarked}
 use Rattle.text.specs.Numbers.{notDefined}
 use Rattle.text.specs.Rules.{inputRule, latchRule, outputRule, gateRule, unknown}
 use Rattle.text.specs.Section.{judged, withRow, section, onward, used}
 use Rattle.reader.specs.SectionAs.{beginning, ReadTo, SectionAs, inputRow, latchRow, gateRow}
-use Rattle.reader.specs.UsedAs.{UsedAs, UsedLines}
-use Rattle.reader.proofs.laws.Judged.{unknown-unmarked}
+use Rattle.fields.specs.UsedAs.{UsedAs}
+use Rattle.reader.specs.UsedLines.{UsedLines}
+use Rattle.fields.proofs.laws.Judged.{unknown-unmarked}
 use Rattle.reader.proofs.laws.SectionLoop.{line-part}
-use Rattle.reader.proofs.laws.Position.{lines-behind}
-use Rattle.reader.proofs.laws.UsedLoop.{used-append}
+use Rattle.fields.proofs.laws.Position.{lines-behind}
+use Rattle.fields.proofs.laws.UsedLoop.{used-append}
 use lib.Seq.{drop-drop}
 
 -- where nothing is marked, nothing is defined
@@ -62,7 +63,7 @@ module _ (m gates : ℕ) (file : List ℕ) (from : Cursor) (end : ℕ) (ends : e
   unfolding section beginning firstLine
   output-line defined = ap (λ (l : List ℕ). judged (outputRule m) defined (from .line) (numbersOf (outputRule m .count) l) >>= λ fs. taken (withRow (outputRule m) (beginning file (from .at) defined) fs)) (sym (line-part file (from .at) end ends))
 
-  pub output-refused : (number : ℕ) → LinedAs (outputRule m) before (take (end - from .at) (drop (from .at) file)) (Fault number) → (after gate left right : List ℕ) → LastAs m gates file from before after gate left right (Refused (record { number = number; place = from .line }))
+  pub output-refused : (number : ℕ) → LinedAs m (outputRule m) before (take (end - from .at) (drop (from .at) file)) (Fault number) → (after gate left right : List ℕ) → LastAs m gates file from before after gate left right (Refused (record { number = number; place = from .line }))
   unfolding lastRead
   output-refused number e after gate left right defined says = rw (output-line defined, e defined (from .line) says)
 

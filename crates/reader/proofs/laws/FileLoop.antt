@@ -12,16 +12,16 @@ use Rattle.bits.specs.Bytes.{startsWith}
 use Rattle.bits.proofs.laws.Bytes.{both-true}
 use Rattle.circuit.specs.Limits.{base}
 use Rattle.circuit.specs.Outcome.{refused, _>>=_, _>>_, refuseIf}
-use Rattle.reader.specs.declared.fields.Row.{Row}
-use Rattle.reader.specs.declared.fields.Row.the-variants.{Of, Bad}
+use Rattle.fields.specs.declared.row.Row.{Row}
+use Rattle.fields.specs.declared.row.Row.the-variants.{Of, Bad}
 use Rattle.reader.specs.BodyRead.{headerWith}
 use Rattle.text.specs.Header.{word, headerNumbers, headerOf, withinLimits}
 use Rattle.text.specs.Line.{lines, firstLine}
 use Rattle.reader.specs.LinesAs.{HeaderAs, circuitOfLines}
 use Rattle.text.specs.Numbers.{fileTooLong, badHeader, headerLimit}
 use Rattle.text.specs.Read.{orBadHeader, linesRead, fileRead, circuitRead}
-use Rattle.reader.specs.RowAt.{RowAt}
-use Rattle.reader.proofs.laws.Position.{lines-behind, first-line-takes}
+use Rattle.fields.specs.RowAt.{RowAt}
+use Rattle.fields.proofs.laws.Position.{lines-behind, first-line-takes}
 
 pub header-as : (line : List ℕ) → startsWith word line ≡ true → (r : Row) → RowAt line 4 5 r → HeaderAs line r
 unfolding headerNumbers

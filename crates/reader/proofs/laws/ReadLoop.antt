@@ -22,13 +22,13 @@ use Rattle.circuit.specs.Outcome.{Outcome, taken, refused, _>>=_, _>>_, refuseI
 use Rattle.circuit.specs.Stored.{padded, stored, emptyCircuit, inputsOf, literalOf}
 use Rattle.reader.specs.BodyRead.{headerWith}
 use Rattle.reader.specs.CountedAs.{withInputs, CountedAs}
-use Rattle.reader.specs.declared.line.Cursor.{Cursor}
+use Rattle.fields.specs.declared.line.Cursor.{Cursor}
 use Rattle.text.specs.Line.{lines}
 use Rattle.reader.specs.LinesAs.{circuitOfLines}
 use Rattle.text.specs.Numbers.{tooManyInputs}
 use Rattle.text.specs.Read.{linesRead}
 use Rattle.text.specs.Symbol.{isControllable}
-use Rattle.reader.specs.SymbolAs.{Flags}
+use Rattle.reader.specs.SymbolsAs.{Flags}
 use Rattle.reader.specs.TextAt.{latchAt, gateAt, TextAt}
 use Rattle.text.specs.TextFile.{circuitOf}
 

@@ -18,13 +18,13 @@ use Rattle.below.proofs.laws.Table.{table-same}
 use Rattle.circuit.specs.Limits.{base}
 use Rattle.circuit.specs.Literal.{variable}
 use Rattle.circuit.specs.Outcome.{Outcome, taken, refused, _>>=_}
-use Rattle.reader.specs.declared.line.Cursor.{Cursor}
+use Rattle.fields.specs.declared.line.Cursor.{Cursor}
 use Rattle.text.specs.Line.{lines, firstLine, numbersOf}
-use Rattle.reader.specs.Marks.{Marks}
+use Rattle.fields.specs.Marks.{Marks}
 use Rattle.text.specs.Rules.{Rule}
 use Rattle.text.specs.Section.{Body, judged, withRow, section}
 use Rattle.reader.specs.SectionAs.{beginning, ReadTo}
-use Rattle.reader.proofs.laws.Position.{lines-behind, first-line-takes, first-line-within}
+use Rattle.fields.proofs.laws.Position.{lines-behind, first-line-takes, first-line-within}
 
 -- one more variable is defined and marked
 pub mark-more : (marks defined : List ℕ) (v : ℕ) → v < length marks → Marks marks defined → Marks (set marks v 1) (defined ++ (v ∷ []))
@@ -161,9 +161,9 @@ module _ (rule : Rule) (n : ℕ) (s : List ℕ) (from : Cursor) (before marks : 
             (rw defines (mark-more marks (r .defined) (variable (getD fs 0 0)) marked (r .says)))
 
 -- a literal that a circuit may have has a mark
-pub has-mark : (marks before : List ℕ) (l : ℕ) → length marks ≡ length before → length before ≡ base .variable + 1 → l < 2 * base .variable + 2 → variable l < length marks
+pub has-mark : (marks before : List ℕ) (M l : ℕ) → length marks ≡ length before → length before ≡ base .variable + 1 → M ≤ base .variable → l < 2 * M + 2 → variable l < length marks
 unfolding variable
-has-mark marks before l e f h = omega arith
+has-mark marks before M l e f few h = omega arith
 
 -- rows before the one just stored stay
 pub stored-before : (l : List ℕ) (i v j : ℕ) → j < i → getD l j 0 ≡ getD (set l i v) j 0

@@ -18,15 +18,15 @@ use Rattle.bits.specs.Bit.{oneIf}
 use Rattle.bits.proofs.laws.Bytes.{both-true}
 use Rattle.circuit.specs.Limits.{base}
 use Rattle.circuit.specs.Outcome.{taken, refused, _>>=_}
-use Rattle.reader.specs.declared.symbols.Symboled.the-variants.{Comment, Of, Bad}
-use Rattle.reader.specs.declared.line.Cursor.{Cursor}
+use Rattle.lines.specs.declared.symbol.Symboled.the-variants.{Comment, Of, Bad}
+use Rattle.fields.specs.declared.line.Cursor.{Cursor}
 use Rattle.text.specs.Line.{lines, before, firstLine}
 use Rattle.text.specs.Numbers.{badSymbol}
 use Rattle.text.specs.Symbol.{Symbol, inputLetter, latchLetter, outputLetter, names, positions, symbolLines, orBadSymbol, isControllable, isControllableName}
-use Rattle.reader.specs.SymbolAs.{Named, Flags, counted, slotOf}
-use Rattle.reader.specs.SymboledAs.{SymbolAs}
-use Rattle.reader.specs.SymbolsAs.{SymbolRoom, SymbolsRead}
-use Rattle.reader.proofs.laws.Position.{first-line-cons, lines-behind}
+use Rattle.lines.specs.Named.{Named, counted, slotOf}
+use Rattle.reader.specs.SymbolsAs.{Flags, SymbolRoom, SymbolsRead}
+use Rattle.lines.specs.SymboledAs.{SymbolAs}
+use Rattle.fields.proofs.laws.Position.{first-line-cons, lines-behind}
 use Rattle.reader.proofs.laws.SectionLoop.{line-part, line-ends-within}
 
 -- a text that isn't empty has a first line, which isn't empty, and the others stand behind it

@@ -14,7 +14,7 @@ use Rattle.circuit.specs.Outcome.{Outcome, taken, refused, _>>=_}
 use Rattle.reader.specs.declared.body.Bodied.{Bodied}
 use Rattle.reader.specs.declared.body.Bodied.the-variants.{Lines, Refused}
 use Rattle.reader.specs.BodyRead.{headerWith, BodyAt, bodyRead}
-use Rattle.reader.specs.declared.line.Cursor.{Cursor}
+use Rattle.fields.specs.declared.line.Cursor.{Cursor}
 use Rattle.text.specs.Header.{Header}
 use Rattle.text.specs.Line.{lines}
 use Rattle.text.specs.Number.{Num, is, bad, number}
@@ -22,7 +22,7 @@ use Rattle.text.specs.Read.{latchOf, gateOf, linesRead}
 use Rattle.reader.specs.SectionAs.{beginning, inputRow, latchRow, gateRow}
 use Rattle.text.specs.Stages.{symbolStage}
 use Rattle.text.specs.Symbol.{Symbol, Symbols, positions, symbolAt, symbolOf, symbolLines, isComment, orBadSymbol}
-use Rattle.reader.specs.SymbolAs.{counted}
+use Rattle.lines.specs.Named.{counted}
 use Rattle.reader.specs.TextAt.{latchAt, gateAt, TextAs, NamedAs}
 use Rattle.reader.proofs.laws.LinesLoop.{lines-taken, lines-refused}
 use Rattle.text.proofs.laws.Stages.{fileOf, behindLate}

@@ -6,7 +6,7 @@ use mathlib.Core.Path.{_∙_, subst}
 use native.Mathlib.Omega.{arith}
 use Rattle.reader.proofs.laws.BodyLoop.{body-refused, body-refused-last, body-as}
 use Rattle.reader.specs.BodyRead.{FirstAs, LastAs}
-use Rattle.reader.specs.UsedAs.{UsedLines}
+use Rattle.reader.specs.UsedLines.{UsedLines}
 use Rattle.reader.proofs.body.body_lines.Statement.{statement}
 use Rattle.reader.proofs.body.body_lines.Tie as tie
 

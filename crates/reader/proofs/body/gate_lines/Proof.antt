@@ -7,7 +7,8 @@ use mathlib.Core.List.{List, [], _∷_}
 use mathlib.Core.Path.{_≡_, refl, sym, _∙_, subst}
 use native.Mathlib.Omega.{arith}
 use Rattle.reader.proofs.laws.SectionLoop.{Looping, looping-starts, looping-ends, looping-refuses, looping-goes-on, line-ends-within, has-mark, stored-before, ap₃}
-use Rattle.reader.specs.LinedAs.{LinedAs}
+use Rattle.lines.specs.LinedAs.{LinedAs}
+use Rattle.lines.specs.declared.body.Lined.the-variants.{Row}
 use Rattle.text.specs.Rules.{gateRule}
 use Rattle.reader.specs.SectionAs.{gateRow}
 use Rattle.reader.proofs.body.gate_lines.Statement.{statement}
@@ -74,10 +75,21 @@ returns c =
     let e = c .before .before .before .before .before .before .line-end in
     looping-refuses (gateRule (a .m)) (length (a .gate .now)) (a .s .now) (a .from) (a .defined .now) (l .defined) (gateRow (l .gate) (l .left) (l .right)) (l .here) (l .i) (l .inv .0) (omega (arith, c .before .before .before .before .before .before .before .loop-test .taken, l .inv .1)) (e .result) (e .ensures)
     (c .before .number .given .0 .0)
-    (subst (LinedAs (gateRule (a .m)) (l .defined) (take (e .result - l .here .at) (drop (l .here .at) (a .s .now)))) (c .before .number .given .1) (c .before .before .before .gate-line .ensures))
+    (subst (LinedAs (a .m) (gateRule (a .m)) (l .defined) (take (e .result - l .here .at) (drop (l .here .at) (a .s .now)))) (c .before .number .given .1) (c .before .before .before .gate-line .ensures))
 
 enum-known-own : tie.Need-enum-known-own Inv-loop μ-loop
 enum-known-own c = search needs
+
+-- what the line says
+lined : (c : tie.After-known-told2 Inv-loop μ-loop) → LinedAs (c .before .before .before .before .before .before .before .before .before .before .before .before .before .before .args .m) (gateRule (c .before .before .before .before .before .before .before .before .before .before .before .before .before .before .args .m)) (c .before .before .before .before .before .before .before .before .loop .defined) (take (c .before .before .before .before .before .before .line-end .result - c .before .before .before .before .before .before .before .before .loop .here .at) (drop (c .before .before .before .before .before .before .before .before .loop .here .at) (c .before .before .before .before .before .before .before .before .before .before .before .before .before .before .args .s .now))) (Row (c .before .own .given .0 .0) (c .before .own .given .0 .1 .0) (c .before .own .given .0 .1 .1 .0))
+lined c =
+    let a = c .before .before .before .before .before .before .before .before .before .before .before .before .before .before .args in
+    let l = c .before .before .before .before .before .before .before .before .loop in
+    let e = c .before .before .before .before .before .before .line-end in
+    subst (LinedAs (a .m) (gateRule (a .m)) (l .defined) (take (e .result - l .here .at) (drop (l .here .at) (a .s .now)))) (c .before .own .given .1) (c .before .before .before .gate-line .ensures)
+
+cast-gate : tie.Need-cast-gate Inv-loop μ-loop
+cast-gate c = omega (arith, c .before .before .before .before .before .before .before .before .before .before .before .before .before .before .pre .0 .largest, lined c .1 .first)
 
 mul-gate : tie.Need-mul-gate Inv-loop μ-loop
 mul-gate c = search needs
@@ -85,11 +97,17 @@ mul-gate c = search needs
 slice-write-gate : tie.Need-slice-write-gate Inv-loop μ-loop
 slice-write-gate c = search needs
 
+cast-left : tie.Need-cast-left Inv-loop μ-loop
+cast-left c = omega (arith, c .before .before .before .before .before .before .before .before .before .before .before .before .before .before .pre .0 .largest, lined c .1 .second)
+
 mul-left : tie.Need-mul-left Inv-loop μ-loop
 mul-left c = search needs
 
 slice-write-left : tie.Need-slice-write-left Inv-loop μ-loop
 slice-write-left c = search needs
+
+cast-right : tie.Need-cast-right Inv-loop μ-loop
+cast-right c = omega (arith, c .before .before .before .before .before .before .before .before .before .before .before .before .before .before .pre .0 .largest, lined c .1 .third)
 
 mul-right : tie.Need-mul-right Inv-loop μ-loop
 mul-right c = search needs
@@ -116,7 +134,7 @@ loop-again c =
     let l = c .before .before .before .before .before .before .before .before .before .before .before .before .before .loop in
     let e = c .before .before .before .before .before .before .before .before .before .before .before .line-end in
     let own = c .before .before .before .before .before .before .own .given in
-    let (fine, may) = (subst (LinedAs (gateRule (a .m)) (l .defined) (take (e .result - l .here .at) (drop (l .here .at) (a .s .now)))) (own .1) (c .before .before .before .before .before .before .before .before .gate-line .ensures)) in
+    let (fine, may) = lined (c .before .before .before .before .before) in
     let gate′ = set (l .gate) (l .i) (own .0 .0) in
     let left′ = set (l .left) (l .i) (own .0 .1 .0) in
     let right′ = set (l .right) (l .i) (own .0 .1 .1 .0) in (
@@ -125,7 +143,7 @@ loop-again c =
           (looping-goes-on (gateRule (a .m)) (length (a .gate .now)) (a .s .now) (a .from) (a .defined .now) (l .defined) (gateRow (l .gate) (l .left) (l .right)) (l .here) (l .i) (l .inv .0) (omega (arith, c .before .before .before .before .before .before .before .before .before .before .before .before .loop-test .taken, l .inv .1)) (e .result) (e .ensures) (own .0 .0 ∷ own .0 .1 .0 ∷ own .0 .1 .1 .0 ∷ []) (gateRow gate′ left′ right′) fine
           (λ j h. ap₃ (λ (x y z : ℕ). x ∷ y ∷ z ∷ []) (stored-before (l .gate) (l .i) (own .0 .0) j h) (stored-before (l .left) (l .i) (own .0 .1 .0) j h) (stored-before (l .right) (l .i) (own .0 .1 .1 .0) j h))
           (ap₃ (λ (x y z : ℕ). x ∷ y ∷ z ∷ []) (getD-set-same (l .gate) (l .i) (own .0 .0) 0 (c .before .before .before .before .before .before .before .before .before .before .before .before .loop-test .taken)) (getD-set-same (l .left) (l .i) (own .0 .1 .0) 0 (omega (arith, c .before .before .before .before .before .before .before .before .before .before .before .before .loop-test .taken, l .inv .1, l .inv .2))) (getD-set-same (l .right) (l .i) (own .0 .1 .1 .0) 0 (omega (arith, c .before .before .before .before .before .before .before .before .before .before .before .before .loop-test .taken, l .inv .1, l .inv .3))))
-          refl (has-mark (l .defined) (a .defined .now) (own .0 .0) (l .inv .0 .marks-all) (c .before .before .before .before .before .before .before .before .before .before .before .before .before .before .before .before .before .before .before .pre .0 .marks-all) (may .first))),
+          refl (has-mark (l .defined) (a .defined .now) (a .m) (own .0 .0) (l .inv .0 .marks-all) (c .before .before .before .before .before .before .before .before .before .before .before .before .before .before .before .before .before .before .before .pre .0 .marks-all) (c .before .before .before .before .before .before .before .before .before .before .before .before .before .before .before .before .before .before .before .pre .0 .largest) (may .first))),
       length-set (l .gate) (l .i) (own .0 .0) ∙ l .inv .1,
       length-set (l .left) (l .i) (own .0 .1 .0) ∙ l .inv .2,
       length-set (l .right) (l .i) (own .0 .1 .1 .0) ∙ l .inv .3,
@@ -168,10 +186,13 @@ gate-lines-spec =
     same-length-4
     returns
     enum-known-own
+    cast-gate
     mul-gate
     slice-write-gate
+    cast-left
     mul-left
     slice-write-left
+    cast-right
     mul-right
     slice-write-right
     mark-requires

@@ -7,9 +7,9 @@ use lib.Seq.{getD-set-same}
 use mathlib.Core.List.{List, [], _∷_}
 use mathlib.Core.Path.{_≡_, refl, sym, ap, _∙_, subst}
 use native.Mathlib.Omega.{arith}
-use Rattle.reader.proofs.laws.SectionLoop.{Looping, looping-starts, looping-ends, looping-refuses, looping-goes-on, line-ends-within}
-use Rattle.reader.proofs.laws.SectionLoop.{has-mark, stored-before}
-use Rattle.reader.specs.LinedAs.{LinedAs}
+use Rattle.reader.proofs.laws.SectionLoop.{Looping, looping-starts, looping-ends, looping-refuses, looping-goes-on, line-ends-within, has-mark, stored-before}
+use Rattle.lines.specs.LinedAs.{LinedAs}
+use Rattle.lines.specs.declared.body.Lined.the-variants.{Row}
 use Rattle.text.specs.Rules.{inputRule}
 use Rattle.reader.specs.SectionAs.{inputRow}
 use Rattle.reader.proofs.body.input_lines.Statement.{statement}
@@ -62,10 +62,21 @@ returns c =
     let e = c .before .before .before .before .before .before .line-end in
     looping-refuses (inputRule (a .m)) (length (a .input .now)) (a .s .now) (a .from) (a .defined .now) (l .defined) (inputRow (l .input)) (l .here) (l .i) (l .inv .0) (omega (arith, c .before .before .before .before .before .before .before .loop-test .taken, l .inv .1)) (e .result) (e .ensures)
     (c .before .number .given .0 .0)
-    (subst (LinedAs (inputRule (a .m)) (l .defined) (take (e .result - l .here .at) (drop (l .here .at) (a .s .now)))) (c .before .number .given .1) (c .before .before .before .input-line .ensures))
+    (subst (LinedAs (a .m) (inputRule (a .m)) (l .defined) (take (e .result - l .here .at) (drop (l .here .at) (a .s .now)))) (c .before .number .given .1) (c .before .before .before .input-line .ensures))
 
 enum-known-own : tie.Need-enum-known-own Inv-loop μ-loop
 enum-known-own c = search needs
+
+-- what the line says
+lined : (c : tie.After-known-told2 Inv-loop μ-loop) → LinedAs (c .before .before .before .before .before .before .before .before .before .before .before .before .args .m) (inputRule (c .before .before .before .before .before .before .before .before .before .before .before .before .args .m)) (c .before .before .before .before .before .before .before .before .loop .defined) (take (c .before .before .before .before .before .before .line-end .result - c .before .before .before .before .before .before .before .before .loop .here .at) (drop (c .before .before .before .before .before .before .before .before .loop .here .at) (c .before .before .before .before .before .before .before .before .before .before .before .before .args .s .now))) (Row (c .before .own .given .0 .0) (c .before .own .given .0 .1 .0) (c .before .own .given .0 .1 .1 .0))
+lined c =
+    let a = c .before .before .before .before .before .before .before .before .before .before .before .before .args in
+    let l = c .before .before .before .before .before .before .before .before .loop in
+    let e = c .before .before .before .before .before .before .line-end in
+    subst (LinedAs (a .m) (inputRule (a .m)) (l .defined) (take (e .result - l .here .at) (drop (l .here .at) (a .s .now)))) (c .before .own .given .1) (c .before .before .before .input-line .ensures)
+
+cast-input : tie.Need-cast-input Inv-loop μ-loop
+cast-input c = omega (arith, c .before .before .before .before .before .before .before .before .before .before .before .before .pre .largest, lined c .1 .first)
 
 mul-input : tie.Need-mul-input Inv-loop μ-loop
 mul-input c = search needs
@@ -92,13 +103,13 @@ loop-again c =
     let l = c .before .before .before .before .before .before .before .before .before .before .before .before .before .loop in
     let e = c .before .before .before .before .before .before .before .before .before .before .before .line-end in
     let own = c .before .before .before .before .before .before .own .given in
-    let (fine, may) = subst (LinedAs (inputRule (a .m)) (l .defined) (take (e .result - l .here .at) (drop (l .here .at) (a .s .now)))) (own .1) (c .before .before .before .before .before .before .before .before .input-line .ensures) in
+    let (fine, may) = lined (c .before .before .before .before .before) in
     let input = set (l .input) (l .i) (own .0 .0) in (
       subst (λ (marks : List ℕ). Looping (inputRule (a .m)) (length (a .input .now)) (a .s .now) (a .from) (a .defined .now) marks (inputRow input) (record { at = e .result; line = l .here .line + 1 }) (l .i + 1)) (sym (c .before .before .before .mark .ensures))
           (looping-goes-on (inputRule (a .m)) (length (a .input .now)) (a .s .now) (a .from) (a .defined .now) (l .defined) (inputRow (l .input)) (l .here) (l .i) (l .inv .0) (omega (arith, c .before .before .before .before .before .before .before .before .before .before .before .before .loop-test .taken, l .inv .1)) (e .result) (e .ensures) (own .0 .0 ∷ []) (inputRow input) fine
           (λ j h. ap (λ (x : ℕ). x ∷ []) (stored-before (l .input) (l .i) (own .0 .0) j h))
           (ap (λ (x : ℕ). x ∷ []) (getD-set-same (l .input) (l .i) (own .0 .0) 0 (c .before .before .before .before .before .before .before .before .before .before .before .before .loop-test .taken)))
-          refl (has-mark (l .defined) (a .defined .now) (own .0 .0) (l .inv .0 .marks-all) (c .before .before .before .before .before .before .before .before .before .before .before .before .before .before .before .before .before .pre .marks-all) (may .first))),
+          refl (has-mark (l .defined) (a .defined .now) (a .m) (own .0 .0) (l .inv .0 .marks-all) (c .before .before .before .before .before .before .before .before .before .before .before .before .before .before .before .before .before .pre .marks-all) (c .before .before .before .before .before .before .before .before .before .before .before .before .before .before .before .before .before .pre .largest) (may .first))),
       length-set (l .input) (l .i) (own .0 .0) ∙ l .inv .1,
     )
 
@@ -131,6 +142,7 @@ input-lines-spec =
     same-length-2
     returns
     enum-known-own
+    cast-input
     mul-input
     slice-write-input
     mark-requires

@@ -3,10 +3,12 @@ use Prim.Native.Nat.{_+_, _-_}
 use borrow.Author.Needs.{needs}
 use lib.ListN.{length, take, drop}
 use mathlib.Core.Path.{sym, subst}
+use native.Mathlib.Omega.{arith}
 use Rattle.reader.proofs.laws.BodyLoop.{output-refused, gates-refused, gates-taken}
 use Rattle.reader.proofs.laws.SectionLoop.{line-ends-within}
 use Rattle.reader.specs.BodyRead.{LastAs}
-use Rattle.reader.specs.LinedAs.{LinedAs}
+use Rattle.lines.specs.LinedAs.{LinedAs}
+use Rattle.lines.specs.declared.body.Lined.the-variants.{Row}
 use Rattle.text.specs.Rules.{outputRule, gateRule}
 use Rattle.reader.specs.SectionAs.{SectionAs, gateRow}
 use Rattle.reader.proofs.body.last_lines.Statement.{statement}
@@ -40,6 +42,16 @@ refusal-requires c κs = search needs
 enum-known-output : tie.Need-enum-known-output
 enum-known-output c = search needs
 
+-- what the output's line says
+lined : (c : tie.After-known-told2) → LinedAs (c .before .before .before .before .before .before .before .before .before .before .before .args .m) (outputRule (c .before .before .before .before .before .before .before .before .before .before .before .args .m)) (c .before .before .before .before .before .before .before .before .before .before .before .args .defined .now) (take (c .before .before .before .before .before .line-end .result - c .before .before .before .before .before .before .before .before .before .before .before .args .from .at) (drop (c .before .before .before .before .before .before .before .before .before .before .before .args .from .at) (c .before .before .before .before .before .before .before .before .before .before .before .args .s .now))) (Row (c .before .output .given .0 .0) (c .before .output .given .0 .1 .0) (c .before .output .given .0 .1 .1 .0))
+lined c =
+    let a = c .before .before .before .before .before .before .before .before .before .before .before .args in
+    let e = c .before .before .before .before .before .line-end in
+    subst (LinedAs (a .m) (outputRule (a .m)) (a .defined .now) (take (e .result - a .from .at) (drop (a .from .at) (a .s .now)))) (c .before .output .given .1) (c .before .before .before .output-line .ensures (a .defined .now))
+
+cast-literal : tie.Need-cast-literal
+cast-literal c = omega (arith, c .before .before .before .before .before .before .before .before .before .before .before .pre .largest, lined c .1 .first)
+
 add-line : tie.Need-add-line
 add-line c = search needs
 
@@ -63,7 +75,7 @@ returns c =
     let a = c .before .before .before .before .before .before .before .before .before .before .before .before .args in
     let e = c .before .before .before .before .before .before .line-end in
     subst (LastAs (a .m) (length (a .gate .now)) (a .s .now) (a .from) (a .defined .now) (a .defined .now) (a .gate .now) (a .left .now) (a .right .now)) (sym (c .refusal .ensures))
-    (output-refused (a .m) (length (a .gate .now)) (a .s .now) (a .from) (e .result) (e .ensures) (a .defined .now) (c .before .before .number .given .0 .0) (subst (LinedAs (outputRule (a .m)) (a .defined .now) (take (e .result - a .from .at) (drop (a .from .at) (a .s .now)))) (c .before .before .number .given .1) (c .before .before .before .before .output-line .ensures (a .defined .now))) (a .defined .now) (a .gate .now) (a .left .now) (a .right .now))
+    (output-refused (a .m) (length (a .gate .now)) (a .s .now) (a .from) (e .result) (e .ensures) (a .defined .now) (c .before .before .number .given .0 .0) (subst (LinedAs (a .m) (outputRule (a .m)) (a .defined .now) (take (e .result - a .from .at) (drop (a .from .at) (a .s .now)))) (c .before .before .number .given .1) (c .before .before .before .before .output-line .ensures (a .defined .now))) (a .defined .now) (a .gate .now) (a .left .now) (a .right .now))
 
 same-length : tie.Need-same-length
 same-length c = search needs
@@ -83,7 +95,7 @@ returns-2 c =
     let a = c .before .before .before .before .before .before .before .before .before .before .before .before .before .before .before .before .before .before .before .before .before .before .before .before .before .before .before .before .args in
     let e = c .before .before .before .before .before .before .before .before .before .before .before .before .before .before .before .before .before .before .before .before .before .before .line-end in
     let g = c .before .before .before .before .before .before .before .before .before .before .before .gate-lines in
-    let (fine, may) = subst (LinedAs (outputRule (a .m)) (a .defined .now) (take (e .result - a .from .at) (drop (a .from .at) (a .s .now)))) (c .before .before .before .before .before .before .before .before .before .before .before .before .before .before .before .before .before .before .output .given .1) (c .before .before .before .before .before .before .before .before .before .before .before .before .before .before .before .before .before .before .before .before .output-line .ensures (a .defined .now)) in
+    let (fine, may) = lined (c .before .before .before .before .before .before .before .before .before .before .before .before .before .before .before .before .before) in
     gates-refused (a .m) (length (a .gate .now)) (a .s .now) (a .from) (e .result) (e .ensures) (a .defined .now) (c .before .before .before .before .before .before .before .before .before .before .before .before .before .before .before .before .before .before .output .given .0 .0) fine (g .last .1 .1 .1 .0) (g .last .1 .1 .1 .1 .0) (g .last .1 .1 .1 .1 .1 .0) (g .last .1 .1 .1 .1 .1 .1 .0) (c .before .r .given .0 .0 .number) (c .before .r .given .0 .0 .place)
     (subst (SectionAs (gateRule (a .m)) (length (a .gate .now)) (a .s .now) (record { at = e .result; line = a .from .line + 1 }) (a .defined .now) (g .last .1 .1 .1 .0) (gateRow (g .last .1 .1 .1 .1 .0) (g .last .1 .1 .1 .1 .1 .0) (g .last .1 .1 .1 .1 .1 .1 .0))) (c .before .r .given .1) (g .ensures))
 
@@ -105,7 +117,7 @@ returns-3 c =
     let a = c .before .before .before .before .before .before .before .before .before .before .before .before .before .before .before .before .before .before .before .before .before .before .before .before .before .before .before .before .args in
     let e = c .before .before .before .before .before .before .before .before .before .before .before .before .before .before .before .before .before .before .before .before .before .before .line-end in
     let g = c .before .before .before .before .before .before .before .before .before .before .before .gate-lines in
-    let (fine, may) = subst (LinedAs (outputRule (a .m)) (a .defined .now) (take (e .result - a .from .at) (drop (a .from .at) (a .s .now)))) (c .before .before .before .before .before .before .before .before .before .before .before .before .before .before .before .before .before .before .output .given .1) (c .before .before .before .before .before .before .before .before .before .before .before .before .before .before .before .before .before .before .before .before .output-line .ensures (a .defined .now)) in
+    let (fine, may) = lined (c .before .before .before .before .before .before .before .before .before .before .before .before .before .before .before .before .before) in
     gates-taken (a .m) (length (a .gate .now)) (a .s .now) (a .from) (e .result) (e .ensures) (a .defined .now) (c .before .before .before .before .before .before .before .before .before .before .before .before .before .before .before .before .before .before .output .given .0 .0) fine (g .last .1 .1 .1 .0) (g .last .1 .1 .1 .1 .0) (g .last .1 .1 .1 .1 .1 .0) (g .last .1 .1 .1 .1 .1 .1 .0) (c .before .last .given .0 .0)
     (subst (SectionAs (gateRule (a .m)) (length (a .gate .now)) (a .s .now) (record { at = e .result; line = a .from .line + 1 }) (a .defined .now) (g .last .1 .1 .1 .0) (gateRow (g .last .1 .1 .1 .1 .0) (g .last .1 .1 .1 .1 .1 .0) (g .last .1 .1 .1 .1 .1 .1 .0))) (c .before .last .given .1) (g .ensures))
 
@@ -121,6 +133,7 @@ last-lines-spec =
     enum-known-number
     refusal-requires
     enum-known-output
+    cast-literal
     add-line
     gate-lines-requires
     enum-known-r

@@ -7,7 +7,8 @@ use mathlib.Core.List.{List, [], _∷_}
 use mathlib.Core.Path.{_≡_, refl, sym, ap₂, _∙_, subst}
 use native.Mathlib.Omega.{arith}
 use Rattle.reader.proofs.laws.SectionLoop.{Looping, looping-starts, looping-ends, looping-refuses, looping-goes-on, line-ends-within, has-mark, stored-before}
-use Rattle.reader.specs.LinedAs.{LinedAs}
+use Rattle.lines.specs.LinedAs.{LinedAs}
+use Rattle.lines.specs.declared.body.Lined.the-variants.{Row}
 use Rattle.text.specs.Rules.{latchRule}
 use Rattle.reader.specs.SectionAs.{latchRow}
 use Rattle.reader.proofs.body.latch_lines.Statement.{statement}
@@ -69,16 +70,30 @@ returns c =
     let e = c .before .before .before .before .before .before .line-end in
     looping-refuses (latchRule (a .m)) (length (a .latch .now)) (a .s .now) (a .from) (a .defined .now) (l .defined) (latchRow (l .latch) (l .next)) (l .here) (l .i) (l .inv .0) (omega (arith, c .before .before .before .before .before .before .before .loop-test .taken, l .inv .1)) (e .result) (e .ensures)
     (c .before .number .given .0 .0)
-    (subst (LinedAs (latchRule (a .m)) (l .defined) (take (e .result - l .here .at) (drop (l .here .at) (a .s .now)))) (c .before .number .given .1) (c .before .before .before .latch-line .ensures))
+    (subst (LinedAs (a .m) (latchRule (a .m)) (l .defined) (take (e .result - l .here .at) (drop (l .here .at) (a .s .now)))) (c .before .number .given .1) (c .before .before .before .latch-line .ensures))
 
 enum-known-own : tie.Need-enum-known-own Inv-loop μ-loop
 enum-known-own c = search needs
+
+-- what the line says
+lined : (c : tie.After-known-told2 Inv-loop μ-loop) → LinedAs (c .before .before .before .before .before .before .before .before .before .before .before .before .before .args .m) (latchRule (c .before .before .before .before .before .before .before .before .before .before .before .before .before .args .m)) (c .before .before .before .before .before .before .before .before .loop .defined) (take (c .before .before .before .before .before .before .line-end .result - c .before .before .before .before .before .before .before .before .loop .here .at) (drop (c .before .before .before .before .before .before .before .before .loop .here .at) (c .before .before .before .before .before .before .before .before .before .before .before .before .before .args .s .now))) (Row (c .before .own .given .0 .0) (c .before .own .given .0 .1 .0) (c .before .own .given .0 .1 .1 .0))
+lined c =
+    let a = c .before .before .before .before .before .before .before .before .before .before .before .before .before .args in
+    let l = c .before .before .before .before .before .before .before .before .loop in
+    let e = c .before .before .before .before .before .before .line-end in
+    subst (LinedAs (a .m) (latchRule (a .m)) (l .defined) (take (e .result - l .here .at) (drop (l .here .at) (a .s .now)))) (c .before .own .given .1) (c .before .before .before .latch-line .ensures)
+
+cast-latch : tie.Need-cast-latch Inv-loop μ-loop
+cast-latch c = omega (arith, c .before .before .before .before .before .before .before .before .before .before .before .before .before .pre .0 .largest, lined c .1 .first)
 
 mul-latch : tie.Need-mul-latch Inv-loop μ-loop
 mul-latch c = search needs
 
 slice-write-latch : tie.Need-slice-write-latch Inv-loop μ-loop
 slice-write-latch c = search needs
+
+cast-next : tie.Need-cast-next Inv-loop μ-loop
+cast-next c = omega (arith, c .before .before .before .before .before .before .before .before .before .before .before .before .before .pre .0 .largest, lined c .1 .second)
 
 mul-next : tie.Need-mul-next Inv-loop μ-loop
 mul-next c = search needs
@@ -105,7 +120,7 @@ loop-again c =
     let l = c .before .before .before .before .before .before .before .before .before .before .before .before .before .loop in
     let e = c .before .before .before .before .before .before .before .before .before .before .before .line-end in
     let own = c .before .before .before .before .before .before .own .given in
-    let (fine, may) = (subst (LinedAs (latchRule (a .m)) (l .defined) (take (e .result - l .here .at) (drop (l .here .at) (a .s .now)))) (own .1) (c .before .before .before .before .before .before .before .before .latch-line .ensures)) in
+    let (fine, may) = lined (c .before .before .before .before .before) in
     let latch′ = set (l .latch) (l .i) (own .0 .0) in
     let next′ = set (l .next) (l .i) (own .0 .1 .0) in (
       subst (λ (marks : List ℕ). Looping (latchRule (a .m)) (length (a .latch .now)) (a .s .now) (a .from) (a .defined .now) marks (latchRow latch′ next′) (record { at = e .result; line = l .here .line + 1 }) (l .i + 1))
@@ -113,7 +128,7 @@ loop-again c =
           (looping-goes-on (latchRule (a .m)) (length (a .latch .now)) (a .s .now) (a .from) (a .defined .now) (l .defined) (latchRow (l .latch) (l .next)) (l .here) (l .i) (l .inv .0) (omega (arith, c .before .before .before .before .before .before .before .before .before .before .before .before .loop-test .taken, l .inv .1)) (e .result) (e .ensures) (own .0 .0 ∷ own .0 .1 .0 ∷ []) (latchRow latch′ next′) fine
           (λ j h. ap₂ (λ (x y : ℕ). x ∷ y ∷ []) (stored-before (l .latch) (l .i) (own .0 .0) j h) (stored-before (l .next) (l .i) (own .0 .1 .0) j h))
           (ap₂ (λ (x y : ℕ). x ∷ y ∷ []) (getD-set-same (l .latch) (l .i) (own .0 .0) 0 (c .before .before .before .before .before .before .before .before .before .before .before .before .loop-test .taken)) (getD-set-same (l .next) (l .i) (own .0 .1 .0) 0 (omega (arith, c .before .before .before .before .before .before .before .before .before .before .before .before .loop-test .taken, l .inv .1, l .inv .2))))
-          refl (has-mark (l .defined) (a .defined .now) (own .0 .0) (l .inv .0 .marks-all) (c .before .before .before .before .before .before .before .before .before .before .before .before .before .before .before .before .before .before .pre .0 .marks-all) (may .first))),
+          refl (has-mark (l .defined) (a .defined .now) (a .m) (own .0 .0) (l .inv .0 .marks-all) (c .before .before .before .before .before .before .before .before .before .before .before .before .before .before .before .before .before .before .pre .0 .marks-all) (c .before .before .before .before .before .before .before .before .before .before .before .before .before .before .before .before .before .before .pre .0 .largest) (may .first))),
       length-set (l .latch) (l .i) (own .0 .0) ∙ l .inv .1,
       length-set (l .next) (l .i) (own .0 .1 .0) ∙ l .inv .2,
     )
@@ -151,8 +166,10 @@ latch-lines-spec =
     same-length-3
     returns
     enum-known-own
+    cast-latch
     mul-latch
     slice-write-latch
+    cast-next
     mul-next
     slice-write-next
     mark-requires

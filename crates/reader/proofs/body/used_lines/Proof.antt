@@ -2,8 +2,8 @@
 use borrow.Author.Needs.{needs}
 use mathlib.Core.Path.{sym, ap, _∙_, subst}
 use Rattle.reader.proofs.laws.BodyLoop.{next-unknown, output-unknown, output-known}
-use Rattle.reader.specs.Marks.{unmarked}
-use Rattle.reader.specs.UsedAs.{UsedLines}
+use Rattle.fields.specs.Marks.{unmarked}
+use Rattle.reader.specs.UsedLines.{UsedLines}
 use Rattle.reader.proofs.body.used_lines.Statement.{statement}
 use Rattle.reader.proofs.body.used_lines.Tie as tie
 

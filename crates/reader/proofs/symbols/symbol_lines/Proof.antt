@@ -6,7 +6,7 @@ use mathlib.Core.Path.{subst}
 use native.Mathlib.Omega.{arith}
 use Rattle.reader.proofs.laws.SectionLoop.{line-ends-within}
 use Rattle.reader.proofs.laws.SymbolLoop.{Symbolling, symbolling-starts, symbolling-ends, symbolling-comments, symbolling-refuses, symbolling-goes-on, line-positive}
-use Rattle.reader.specs.SymboledAs.{SymbolAs}
+use Rattle.lines.specs.SymboledAs.{SymbolAs}
 use Rattle.reader.proofs.symbols.symbol_lines.Statement.{statement}
 use Rattle.reader.proofs.symbols.symbol_lines.Tie as tie
 

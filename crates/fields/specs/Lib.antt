@@ -1,0 +1,5 @@
+pub mod NumberAt
+pub mod RowAt
+pub mod Marks
+pub mod UsedAs
+pub mod WellNamed

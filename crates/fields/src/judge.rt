@@ -1,0 +1,79 @@
+// What the literals of a line call for (01, "The file", rules 3 and 4; "The numbers", 5 to 7).
+ghost use Prim.Native.Nat.{_<_, _+_, _*_};
+ghost use mathlib.Core.Bool.{_||_};
+ghost use mathlib.Core.Path.{_≡_};
+ghost use Rattle.circuit.specs.Literal.{tooLarge};
+ghost use Rattle.fields.specs.Marks.{marked, unmarked, numberOr};
+ghost use Rattle.text.specs.Rules.{firstOf, badOwn};
+
+pub fn too_large(m: u16, l: u32) -> bool
+    ensures { λ r. ⌜ r ≡ tooLarge m l ⌝ }
+{
+    let m = m as u32;
+    2 * m + 1 < l
+}
+
+// A literal that may not define.
+pub fn bad_own(m: u16, l: u32) -> bool
+    ensures { λ r. ⌜ r ≡ badOwn m l ⌝ }
+{
+    if too_large(m, l) {
+        return true;
+    }
+    if l % 2 == 0 {
+        if 2 <= l {
+            return false;
+        }
+    }
+    true
+}
+
+// Whether a literal's variable is marked as defined.
+pub fn is_marked(defined: &[u8], l: u32) -> bool
+    ensures { λ r. ⌜ r ≡ marked (now (defined .entry)) l ⌝ }
+{
+    let v = (l / 2) as usize;
+    if v < defined.len() {
+        defined[v] == 1
+    } else {
+        false
+    }
+}
+
+// A literal that is neither a constant nor marked.
+pub fn is_unknown(defined: &[u8], l: u32) -> bool
+    ensures { λ r. ⌜ r ≡ unmarked (now (defined .entry)) l ⌝ }
+{
+    if l < 2 {
+        return false;
+    }
+    if is_marked(defined, l) {
+        return false;
+    }
+    true
+}
+
+pub fn either(a: bool, b: bool) -> bool
+    ensures { λ r. ⌜ r ≡ (a || b) ⌝ }
+{
+    if a {
+        return true;
+    }
+    b
+}
+
+// The first of 5, 6 and 7 that applies, or 0.
+pub fn first_of(five: bool, six: bool, seven: bool) -> u8
+    ensures { λ r. ⌜ r ≡ numberOr (firstOf five six seven) ⌝ }
+{
+    if five {
+        return 5;
+    }
+    if six {
+        return 6;
+    }
+    if seven {
+        return 7;
+    }
+    0
+}

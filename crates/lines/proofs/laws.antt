@@ -1,0 +1,3 @@
+pub mod FoundLine
+pub mod SymbolHere
+pub mod Decided

@@ -1,0 +1,3 @@
+pub mod LinedAs
+pub mod Named
+pub mod SymboledAs
