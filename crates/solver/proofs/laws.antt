@@ -6,6 +6,7 @@ pub mod Window
 pub mod Slots
 pub mod Kept
 pub mod Over
+pub mod PlacesOf
 pub mod Solved
 pub mod Counts
 pub mod Solution

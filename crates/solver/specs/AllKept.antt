@@ -9,6 +9,7 @@ use Rattle.circuit.specs.Limits.{base}
 use Rattle.game.specs.Game.{Game}
 use Rattle.game.specs.Keeps.{keeps}
 use Rattle.game.specs.Rank.{notRanked}
+use Rattle.solver.specs.PlacesOf.{placesOf}
 use Rattle.solver.specs.Window.{window, nowhere, leads, slotsAt}
 
 pub record KeptAt (g : Game) (ranks : ℕ → ℕ) (k state reading windows : ℕ) (slot : ℕ → ℕ) : Type 0 where
@@ -19,8 +20,8 @@ pub record KeptAt (g : Game) (ranks : ℕ → ℕ) (k state reading windows : �
   pub unseen : (j : ℕ) → j < window → windows ≡ 0 → slot j ≡ nowhere
 
 pub record AllKept (g : Game) (ranks : ℕ → ℕ) (k : ℕ) (looked slots : List ℕ) : Type 0 where
-  pub looked-long : length looked ≡ 2 ^ base .latches * 2 ^ base .uncontrollable
-  pub slots-long : length slots ≡ 2 ^ base .latches * 2 ^ base .uncontrollable * window
+  pub looked-long : length looked ≡ placesOf g
+  pub slots-long : length slots ≡ placesOf g * window
   pub few-states : g .states ≤ 2 ^ base .latches
   pub few-readings : g .readings ≤ 2 ^ base .uncontrollable
   pub at : (s r : ℕ) → s < g .states → r < g .readings → KeptAt g ranks k s r (getD looked (s * g .readings + r) 0) (slotsAt slots (s * g .readings + r))

@@ -2,6 +2,7 @@ pub mod Played
 pub mod RankTable
 pub mod Fair
 pub mod Over
+pub mod PlacesOf
 pub mod Window
 pub mod AllKept
 pub mod RegionTable

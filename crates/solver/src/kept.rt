@@ -23,18 +23,36 @@ ghost use Rattle.game.specs.Rank.{notRanked, defeats};
 ghost use Rattle.solver.specs.Played.{played, ranksIn};
 ghost use Rattle.solver.specs.AllKept.{KeptAt, AllKept};
 ghost use Rattle.solver.specs.Over.{replyOver};
+ghost use Rattle.solver.specs.PlacesOf.{small, full};
 ghost use Rattle.solver.specs.Ready.{Ready};
 ghost use Rattle.solver.specs.Window.{window, nowhere, slotsAt};
 
-// Before the first look no window was looked at, and nothing is known of where a control leads.
-pub(crate) fn none_looked() -> [u8; Circuit::REPLIES]
-    ensures { λ r. ⌜ r ≡ table (λ i. 0) (2 ^ base .latches * 2 ^ base .uncontrollable) ⌝ }
+// A small game has at most so many states, and so many places: a place is a state and a reading.
+pub(crate) const FEW_STATES: usize = 256;
+
+pub(crate) const SMALL: usize = 2048;
+
+// Before the first look no window was looked at, and nothing is known of where a control leads: for a small game, and for any.
+pub(crate) fn small_looked() -> [u8; SMALL]
+    ensures { λ r. ⌜ r ≡ table (λ i. 0) small ⌝ }
+{
+    [0u8; SMALL]
+}
+
+pub(crate) fn small_led() -> [u16; SMALL * WINDOW]
+    ensures { λ r. ⌜ r ≡ table (λ i. nowhere) (small * window) ⌝ }
+{
+    [NOWHERE; SMALL * WINDOW]
+}
+
+pub(crate) fn full_looked() -> [u8; Circuit::REPLIES]
+    ensures { λ r. ⌜ r ≡ table (λ i. 0) full ⌝ }
 {
     [0u8; Circuit::REPLIES]
 }
 
-pub(crate) fn none_led() -> [u16; Circuit::REPLIES * WINDOW]
-    ensures { λ r. ⌜ r ≡ table (λ i. nowhere) (2 ^ base .latches * 2 ^ base .uncontrollable * window) ⌝ }
+pub(crate) fn full_led() -> [u16; Circuit::REPLIES * WINDOW]
+    ensures { λ r. ⌜ r ≡ table (λ i. nowhere) (full * window) ⌝ }
 {
     [NOWHERE; Circuit::REPLIES * WINDOW]
 }
@@ -121,7 +139,7 @@ pub(crate) fn replies_kept<'a>(
     requires { ⌜ states ≤ (played readings controls (lent 0 (now input) (now controllable) (now latch) (now next) output (now gate) (now left) (now right))) .states ⌝ }
     requires { ⌜ ((t : ℕ) → ranksIn (now ranks) t ≤ k) ⌝ }
     requires { ⌜ AllKept (played readings controls (lent 0 (now input) (now controllable) (now latch) (now next) output (now gate) (now left) (now right))) (ranksIn (now ranks)) k (now looked) (now slots) ⌝ }
-    ensures { λ r. ⌜ (r ≡ table (λ i. cond (ltb i (states * min readings (2 ^ base .uncontrollable))) (replyOver (played 0 controls (lent 0 (now (input .entry)) (now (controllable .entry)) (now (latch .entry)) (now (next .entry)) output (now (gate .entry)) (now (left .entry)) (now (right .entry)))) (now (ranks .entry)) (i / min readings (2 ^ base .uncontrollable)) (i % min readings (2 ^ base .uncontrollable))) 0) (2 ^ base .latches * 2 ^ base .uncontrollable)) × Ready (now (input .entry)) (now (latch .entry)) (now (gate .entry)) (now (left .entry)) (now (right .entry)) top (now (words .exit)) ⌝ }
+    ensures { λ r. ⌜ (r ≡ table (λ i. cond (ltb i (states * min readings (2 ^ base .uncontrollable))) (replyOver (played 0 controls (lent 0 (now (input .entry)) (now (controllable .entry)) (now (latch .entry)) (now (next .entry)) output (now (gate .entry)) (now (left .entry)) (now (right .entry)))) (now (ranks .entry)) (i / min readings (2 ^ base .uncontrollable)) (i % min readings (2 ^ base .uncontrollable))) 0) full) × Ready (now (input .entry)) (now (latch .entry)) (now (gate .entry)) (now (left .entry)) (now (right .entry)) top (now (words .exit)) ⌝ }
 {
     let width = below::fewer(readings, Circuit::READINGS);
     let n = states * width;
@@ -155,7 +173,7 @@ pub(crate) fn replies_kept<'a>(
 }
 
 pub(crate) fn no_replies() -> [u8; Circuit::REPLIES]
-    ensures { λ r. ⌜ r ≡ table (λ i. 0) (2 ^ base .latches * 2 ^ base .uncontrollable) ⌝ }
+    ensures { λ r. ⌜ r ≡ table (λ i. 0) full ⌝ }
 {
     [0u8; Circuit::REPLIES]
 }
@@ -183,8 +201,8 @@ fn reply_kept<'a>(
 ) -> u8
     requires { ⌜ Ready (now input) (now latch) (now gate) (now left) (now right) top (now words) ⌝ }
     requires { ⌜ ((t : ℕ) → ranksIn (now ranks) t ≤ k) ⌝ }
-    requires { ⌜ i < 2 ^ base .latches * 2 ^ base .uncontrollable ⌝ }
-    requires { ⌜ length (now slots) ≡ 2 ^ base .latches * 2 ^ base .uncontrollable * window ⌝ }
+    requires { ⌜ i < full ⌝ }
+    requires { ⌜ i * window + window ≤ length (now slots) ⌝ }
     requires { ⌜ KeptAt (played 0 controls (lent 0 (now input) (now controllable) (now latch) (now next) output (now gate) (now left) (now right))) (ranksIn (now ranks)) k state reading windows (slotsAt (now slots) i) ⌝ }
     ensures { λ r. ⌜ (r ≡ replyOver (played 0 controls (lent 0 (now (input .entry)) (now (controllable .entry)) (now (latch .entry)) (now (next .entry)) output (now (gate .entry)) (now (left .entry)) (now (right .entry)))) (now (ranks .entry)) state reading) × Ready (now (input .entry)) (now (latch .entry)) (now (gate .entry)) (now (left .entry)) (now (right .entry)) top (now (words .exit)) ⌝ }
 {
@@ -236,8 +254,8 @@ fn least_kept<'a>(
     i: usize,
 ) -> usize
     requires { ⌜ Ready (now input) (now latch) (now gate) (now left) (now right) top (now words) ⌝ }
-    requires { ⌜ i < 2 ^ base .latches * 2 ^ base .uncontrollable ⌝ }
-    requires { ⌜ length (now slots) ≡ 2 ^ base .latches * 2 ^ base .uncontrollable * window ⌝ }
+    requires { ⌜ i < full ⌝ }
+    requires { ⌜ i * window + window ≤ length (now slots) ⌝ }
     requires { ⌜ KeptAt (played 0 controls (lent 0 (now input) (now controllable) (now latch) (now next) output (now gate) (now left) (now right))) (ranksIn (now ranks)) k state reading windows (slotsAt (now slots) i) ⌝ }
     ensures { λ r. ⌜ (r ≡ least (keeps (played 0 controls (lent 0 (now (input .entry)) (now (controllable .entry)) (now (latch .entry)) (now (next .entry)) output (now (gate .entry)) (now (left .entry)) (now (right .entry)))) (notRanked (ranksIn (now (ranks .entry))) k) state reading) (min controls (2 ^ base .controllable))) × Ready (now (input .entry)) (now (latch .entry)) (now (gate .entry)) (now (left .entry)) (now (right .entry)) top (now (words .exit)) ⌝ }
 {
@@ -292,7 +310,8 @@ fn look_at<'a>(
     requires { ⌜ state < (played readings controls (lent 0 (now input) (now controllable) (now latch) (now next) output (now gate) (now left) (now right))) .states ⌝ }
     requires { ⌜ reading < min readings (2 ^ base .uncontrollable) ⌝ }
     requires { ⌜ i ≡ state * min readings (2 ^ base .uncontrollable) + reading ⌝ }
-    requires { ⌜ i < 2 ^ base .latches * 2 ^ base .uncontrollable ⌝ }
+    requires { ⌜ i < full ⌝ }
+    requires { ⌜ i < length (now looked) ⌝ }
     requires { ⌜ AllKept (played readings controls (lent 0 (now input) (now controllable) (now latch) (now next) output (now gate) (now left) (now right))) (ranksIn (now ranks)) k (now looked) (now slots) ⌝ }
     ensures { λ r. ⌜ (r ≡ defeats (played readings controls (lent 0 (now (input .entry)) (now (controllable .entry)) (now (latch .entry)) (now (next .entry)) output (now (gate .entry)) (now (left .entry)) (now (right .entry)))) (ranksIn (now (ranks .entry))) k state reading) × AllKept (played readings controls (lent 0 (now (input .entry)) (now (controllable .entry)) (now (latch .entry)) (now (next .entry)) output (now (gate .entry)) (now (left .entry)) (now (right .entry)))) (ranksIn (now (ranks .entry))) k (now (looked .exit)) (now (slots .exit)) × Ready (now (input .entry)) (now (latch .entry)) (now (gate .entry)) (now (left .entry)) (now (right .entry)) top (now (words .exit)) ⌝ }
 {

@@ -10,7 +10,6 @@ mod window;
 
 use circuit::Circuit;
 use kept::no_replies;
-use ready::highest;
 use ready::operands;
 use ready::owns;
 use rounds::no_attacks;
@@ -93,9 +92,7 @@ fn solve_lent<'a>(
         return nothing();
     }
     let l = below::fewer(latch.len(), Circuit::LATCHES);
-    let top = highest(gate, highest(latch, highest(input, 0)));
     rounds(
-        top,
         input,
         controllable,
         latch,

@@ -1,14 +1,19 @@
 // The rounds of the solver (01, "The game"): each is worked out from the ranks of the one before, kept whole.
 use crate::Solution;
+use crate::kept::FEW_STATES;
+use crate::kept::SMALL;
+use crate::kept::full_led;
+use crate::kept::full_looked;
 use crate::kept::least_defeat;
-use crate::kept::none_led;
-use crate::kept::none_looked;
 use crate::kept::replies_kept;
+use crate::kept::small_led;
+use crate::kept::small_looked;
 use crate::rank_list::rank_at;
+use crate::ready::highest;
 use crate::ready::no_words;
 use circuit::Circuit;
 use lanes::WORDS;
-ghost use Prim.Native.Nat.{ℕ, _^_, _<_, _≤_};
+ghost use Prim.Native.Nat.{ℕ, _*_, _^_, _<_, _≤_};
 ghost use mathlib.Core.Bool.{not};
 ghost use mathlib.Core.Path.{_≡_};
 ghost use lib.Dec.{eqb};
@@ -20,17 +25,17 @@ ghost use Rattle.circuit.specs.Limits.{base};
 ghost use Rattle.circuit.specs.Stored.{lent};
 ghost use Rattle.game.specs.Rank.{round as roundOf};
 ghost use Rattle.solver.specs.Played.{played, ranksIn};
-ghost use Rattle.lanes.specs.Plain.{words as wordCount};
+ghost use Rattle.lanes.specs.Prepared.{Prepared};
 ghost use Rattle.solver.specs.AllKept.{AllKept};
 ghost use Rattle.solver.specs.Fair.{Fair};
 ghost use Rattle.solver.specs.AttacksAfter.{attackAfter, attacksAfter};
+ghost use Rattle.solver.specs.PlacesOf.{fewStates, small, full, placesOf};
 ghost use Rattle.solver.specs.RankTable.{rankTable, roundTable};
 ghost use Rattle.solver.specs.Ready.{Ready};
 ghost use Rattle.solver.specs.Solution.{attackTable, solutionOf};
 
-// Rounds until one changes nothing: then none after it does.
+// The solution by rounds. What they keep takes little room where the game is small.
 pub(crate) fn rounds<'a>(
-    top: usize,
     input: &'a [u16],
     controllable: &'a [u8],
     latch: &'a [u16],
@@ -43,22 +48,14 @@ pub(crate) fn rounds<'a>(
     controls: usize,
     states: usize,
 ) -> Solution
-    requires { ⌜ Ready (now input) (now latch) (now gate) (now left) (now right) top (table (λ v. 0) wordCount) ⌝ }
+    requires { ⌜ Prepared (now gate) (now left) (now right) ⌝ }
     requires { ⌜ 0 < readings ⌝ }
     requires { ⌜ 0 < controls ⌝ }
     requires { ⌜ states ≡ 2 ^ latchCount (lent 0 (now input) (now controllable) (now latch) (now next) output (now gate) (now left) (now right)) ⌝ }
     ensures { λ r. ⌜ r ≡ solutionOf (played readings controls (lent 0 (now (input .entry)) (now (controllable .entry)) (now (latch .entry)) (now (next .entry)) output (now (gate .entry)) (now (left .entry)) (now (right .entry)))) ⌝ }
 {
-    let mut words = no_words();
-    let mut looked = none_looked();
-    let mut slots = none_led();
-    let mut attacks = no_attacks();
-    let mut ranks = zeros();
-    let mut k = 0;
-    while k < states {
-        let after = round(
-            &mut words,
-            top,
+    if FEW_STATES < states {
+        return full_rounds(
             input,
             controllable,
             latch,
@@ -70,38 +67,83 @@ pub(crate) fn rounds<'a>(
             readings,
             controls,
             states,
-            ranks,
-            k as u16,
-            &mut attacks,
-            &mut looked,
-            &mut slots,
         );
-        let changed = changes(&ranks, &after, states);
-        if !changed {
-            return solved(
-                &mut words,
-                top,
-                input,
-                controllable,
-                latch,
-                next,
-                output,
-                gate,
-                left,
-                right,
-                readings,
-                controls,
-                states,
-                ranks,
-                attacks,
-                k as u16,
-                &looked,
-                &slots,
-            );
-        }
-        ranks = after;
-        k += 1;
     }
+    if SMALL < states * below::fewer(readings, Circuit::READINGS) {
+        return full_rounds(
+            input,
+            controllable,
+            latch,
+            next,
+            output,
+            gate,
+            left,
+            right,
+            readings,
+            controls,
+            states,
+        );
+    }
+    small_rounds(
+        input,
+        controllable,
+        latch,
+        next,
+        output,
+        gate,
+        left,
+        right,
+        readings,
+        controls,
+        states,
+    )
+}
+
+// The same for a small game.
+fn small_rounds<'a>(
+    input: &'a [u16],
+    controllable: &'a [u8],
+    latch: &'a [u16],
+    next: &'a [u16],
+    output: u16,
+    gate: &'a [u16],
+    left: &'a [u16],
+    right: &'a [u16],
+    readings: usize,
+    controls: usize,
+    states: usize,
+) -> Solution
+    requires { ⌜ Prepared (now gate) (now left) (now right) ⌝ }
+    requires { ⌜ 0 < readings ⌝ }
+    requires { ⌜ 0 < controls ⌝ }
+    requires { ⌜ states ≡ 2 ^ latchCount (lent 0 (now input) (now controllable) (now latch) (now next) output (now gate) (now left) (now right)) ⌝ }
+    requires { ⌜ (played readings controls (lent 0 (now input) (now controllable) (now latch) (now next) output (now gate) (now left) (now right))) .states ≤ fewStates ⌝ }
+    requires { ⌜ (played readings controls (lent 0 (now input) (now controllable) (now latch) (now next) output (now gate) (now left) (now right))) .states * (played readings controls (lent 0 (now input) (now controllable) (now latch) (now next) output (now gate) (now left) (now right))) .readings ≤ small ⌝ }
+    ensures { λ r. ⌜ r ≡ solutionOf (played readings controls (lent 0 (now (input .entry)) (now (controllable .entry)) (now (latch .entry)) (now (next .entry)) output (now (gate .entry)) (now (left .entry)) (now (right .entry)))) ⌝ }
+{
+    let top = highest(gate, highest(latch, highest(input, 0)));
+    let mut words = no_words();
+    let mut looked = small_looked();
+    let mut slots = small_led();
+    let mut attacks = no_attacks();
+    let ranks = rounds_kept(
+        &mut words,
+        top,
+        input,
+        controllable,
+        latch,
+        next,
+        output,
+        gate,
+        left,
+        right,
+        readings,
+        controls,
+        states,
+        &mut attacks,
+        &mut looked,
+        &mut slots,
+    );
     solved(
         &mut words,
         top,
@@ -118,10 +160,135 @@ pub(crate) fn rounds<'a>(
         states,
         ranks,
         attacks,
-        k as u16,
+        Circuit::STATES as u16,
         &looked,
         &slots,
     )
+}
+
+// The same for any other.
+fn full_rounds<'a>(
+    input: &'a [u16],
+    controllable: &'a [u8],
+    latch: &'a [u16],
+    next: &'a [u16],
+    output: u16,
+    gate: &'a [u16],
+    left: &'a [u16],
+    right: &'a [u16],
+    readings: usize,
+    controls: usize,
+    states: usize,
+) -> Solution
+    requires { ⌜ Prepared (now gate) (now left) (now right) ⌝ }
+    requires { ⌜ 0 < readings ⌝ }
+    requires { ⌜ 0 < controls ⌝ }
+    requires { ⌜ states ≡ 2 ^ latchCount (lent 0 (now input) (now controllable) (now latch) (now next) output (now gate) (now left) (now right)) ⌝ }
+    requires { ⌜ placesOf (played readings controls (lent 0 (now input) (now controllable) (now latch) (now next) output (now gate) (now left) (now right))) ≡ full ⌝ }
+    ensures { λ r. ⌜ r ≡ solutionOf (played readings controls (lent 0 (now (input .entry)) (now (controllable .entry)) (now (latch .entry)) (now (next .entry)) output (now (gate .entry)) (now (left .entry)) (now (right .entry)))) ⌝ }
+{
+    let top = highest(gate, highest(latch, highest(input, 0)));
+    let mut words = no_words();
+    let mut looked = full_looked();
+    let mut slots = full_led();
+    let mut attacks = no_attacks();
+    let ranks = rounds_kept(
+        &mut words,
+        top,
+        input,
+        controllable,
+        latch,
+        next,
+        output,
+        gate,
+        left,
+        right,
+        readings,
+        controls,
+        states,
+        &mut attacks,
+        &mut looked,
+        &mut slots,
+    );
+    solved(
+        &mut words,
+        top,
+        input,
+        controllable,
+        latch,
+        next,
+        output,
+        gate,
+        left,
+        right,
+        readings,
+        controls,
+        states,
+        ranks,
+        attacks,
+        Circuit::STATES as u16,
+        &looked,
+        &slots,
+    )
+}
+
+// Rounds until one changes nothing: then none after it does. Nothing was looked at before the first. Answers the ranks, and leaves the attacks.
+fn rounds_kept<'a>(
+    words: &mut [u64; WORDS],
+    top: usize,
+    input: &'a [u16],
+    controllable: &'a [u8],
+    latch: &'a [u16],
+    next: &'a [u16],
+    output: u16,
+    gate: &'a [u16],
+    left: &'a [u16],
+    right: &'a [u16],
+    readings: usize,
+    controls: usize,
+    states: usize,
+    attacks: &mut [u8],
+    looked: &mut [u8],
+    slots: &mut [u16],
+) -> [u16; Circuit::STATES]
+    requires { ⌜ Ready (now input) (now latch) (now gate) (now left) (now right) top (now words) ⌝ }
+    requires { ⌜ 0 < controls ⌝ }
+    requires { ⌜ states ≡ 2 ^ latchCount (lent 0 (now input) (now controllable) (now latch) (now next) output (now gate) (now left) (now right)) ⌝ }
+    requires { ⌜ now attacks ≡ table (λ s. 0) (2 ^ base .latches) ⌝ }
+    requires { ⌜ AllKept (played readings controls (lent 0 (now input) (now controllable) (now latch) (now next) output (now gate) (now left) (now right))) (ranksIn (table (λ s. 0) (2 ^ base .latches))) 0 (now looked) (now slots) ⌝ }
+    ensures { λ r. ⌜ (r ≡ rankTable (played readings controls (lent 0 (now (input .entry)) (now (controllable .entry)) (now (latch .entry)) (now (next .entry)) output (now (gate .entry)) (now (left .entry)) (now (right .entry))))) × (now (attacks .exit) ≡ attackTable (played readings controls (lent 0 (now (input .entry)) (now (controllable .entry)) (now (latch .entry)) (now (next .entry)) output (now (gate .entry)) (now (left .entry)) (now (right .entry))))) × ((t : ℕ) → ranksIn r t ≤ 2 ^ base .latches) × AllKept (played readings controls (lent 0 (now (input .entry)) (now (controllable .entry)) (now (latch .entry)) (now (next .entry)) output (now (gate .entry)) (now (left .entry)) (now (right .entry)))) (ranksIn r) (2 ^ base .latches) (now (looked .exit)) (now (slots .exit)) × Ready (now (input .entry)) (now (latch .entry)) (now (gate .entry)) (now (left .entry)) (now (right .entry)) top (now (words .exit)) ⌝ }
+{
+    let mut ranks = zeros();
+    let mut k = 0;
+    while k < states {
+        let after = round(
+            words,
+            top,
+            input,
+            controllable,
+            latch,
+            next,
+            output,
+            gate,
+            left,
+            right,
+            readings,
+            controls,
+            states,
+            ranks,
+            k as u16,
+            attacks,
+            looked,
+            slots,
+        );
+        let changed = changes(&ranks, &after, states);
+        if !changed {
+            return ranks;
+        }
+        ranks = after;
+        k += 1;
+    }
+    ranks
 }
 
 // The solution, where ranks and attacks are the game's: the controls kept are the replies.

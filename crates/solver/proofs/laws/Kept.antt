@@ -30,8 +30,10 @@ use Rattle.solver.proofs.laws.Played.{none-defeats}
 use Rattle.step.specs.Step.{step}
 use Rattle.step.proofs.laws.Step.{next-below}
 use Rattle.solver.specs.AllKept.{KeptAt, AllKept}
+use Rattle.solver.specs.PlacesOf.{full, placesOf}
 use Rattle.solver.specs.RankTable.{roundTable}
 use Rattle.solver.specs.Window.{window, nowhere, leads, leadsIn, slotKeeps, slotsAt, putSlots}
+use Rattle.solver.proofs.laws.PlacesOf.{places-enough, places-most}
 use Rattle.solver.proofs.laws.Slots.{slots-put, slots-other, slots-length}
 use Rattle.solver.proofs.laws.Window.{slot-window, slot-there, slot-found, slot-on, slot-next, block-leads}
 
@@ -58,8 +60,8 @@ readings-read readings controls c ranks k s r windows slot kept = record { low =
 
 module _ (g : Game) (ranks : ℕ → ℕ) (k : ℕ) (looked slots : List ℕ) (all : AllKept g ranks k looked slots) where
   -- the place of a state and a reading lies in the lists
-  pub place-within : (s r : ℕ) → s < g .states → r < g .readings → s * g .readings + r < 2 ^ base .latches * 2 ^ base .uncontrollable
-  place-within s r h l = lt-of-lt-of-le (digits-lt h l) (mul-le-mul (all .few-states) (all .few-readings))
+  pub place-within : (s r : ℕ) → s < g .states → r < g .readings → s * g .readings + r < placesOf g
+  place-within s r h l = lt-of-lt-of-le (digits-lt h l) (places-enough g (all .few-states) (all .few-readings))
 
   kept-put : (s r windows : ℕ) (f : ℕ → ℕ) → s < g .states → r < g .readings → KeptAt g ranks k s r windows f → AllKept g ranks k (set looked (s * g .readings + r) windows) (putSlots ((s * g .readings + r) * window) f slots)
   kept-put s r windows f h l new = record { looked-long = length-set looked i windows ∙ all .looked-long; slots-long = slots-length slots (i * window) f ∙ all .slots-long; few-states = all .few-states; few-readings = all .few-readings; at = at }
@@ -86,16 +88,23 @@ module _ (g : Game) (ranks : ℕ → ℕ) (k : ℕ) (looked slots : List ℕ) (a
       at : (s r : ℕ) → s < g .states → r < g .readings → KeptAt g other m s r (getD looked (s * g .readings + r) 0) (slotsAt slots (s * g .readings + r))
       at s r h l = let a = all .at s r h l in record { low = a .low; few = a .few; failed = λ j i. fails-again g (notRanked ranks k) (notRanked other m) s r j more (a .failed j i); seen = a .seen; unseen = a .unseen }
 
+-- nor does a greater bound take a rank away
+pub kept-most : (g : Game) (k m : ℕ) (ranks looked slots : List ℕ) → AllKept g (ranksIn ranks) k looked slots → k ≤ m → AllKept g (ranksIn ranks) m looked slots
+kept-most g k m ranks looked slots all h = kept-later g (ranksIn ranks) k looked slots all (ranksIn ranks) m still
+  where
+    still : (t : ℕ) → notRanked (ranksIn ranks) k t ≡ false → notRanked (ranksIn ranks) m t ≡ false
+    still t f = let r = ranked-is (ranksIn ranks) k t f in is-ranked (ranksIn ranks) m t (r .0) (omega (arith, r .1))
+
 -- before the first look
-pub kept-start : (g : Game) (ranks : ℕ → ℕ) (k : ℕ) (looked slots : List ℕ) → ((s r j : ℕ) → (g .step s r j) .next < 2 ^ base .latches) → g .states ≤ 2 ^ base .latches → g .readings ≤ 2 ^ base .uncontrollable → looked ≡ table (λ i. 0) (2 ^ base .latches * 2 ^ base .uncontrollable) → slots ≡ table (λ i. nowhere) (2 ^ base .latches * 2 ^ base .uncontrollable * window) → AllKept g ranks k looked slots
+kept-start : (g : Game) (ranks : ℕ → ℕ) (k : ℕ) (looked slots : List ℕ) → ((s r j : ℕ) → (g .step s r j) .next < 2 ^ base .latches) → g .states ≤ 2 ^ base .latches → g .readings ≤ 2 ^ base .uncontrollable → looked ≡ table (λ i. 0) (placesOf g) → slots ≡ table (λ i. nowhere) (placesOf g * window) → AllKept g ranks k looked slots
 unfolding slotsAt
 kept-start g ranks k looked slots low a b e f = record { looked-long = ap length e ∙ length-table (λ i. 0) n; slots-long = ap length f ∙ length-table (λ i. nowhere) (n * window); few-states = a; few-readings = b; at = at }
   where
     n : ℕ
-    n = 2 ^ base .latches * 2 ^ base .uncontrollable
+    n = placesOf g
 
     within : (s r : ℕ) → s < g .states → r < g .readings → s * g .readings + r < n
-    within s r h l = lt-of-lt-of-le (digits-lt h l) (mul-le-mul a b)
+    within s r h l = lt-of-lt-of-le (digits-lt h l) (places-enough g a b)
 
     zero : (s r : ℕ) → s < g .states → r < g .readings → getD looked (s * g .readings + r) 0 ≡ 0
     zero s r h l = ap (λ (x : List ℕ). getD x (s * g .readings + r) 0) e ∙ getD-table (λ i. 0) n (s * g .readings + r) 0 (within s r h l)
@@ -107,9 +116,14 @@ kept-start g ranks k looked slots low a b e f = record { looked-long = ap length
     at s r h l = record { low = low s r; few = omega (arith, zero s r h l); failed = λ j i. absurd (omega (arith, zero s r h l)); seen = λ j i w. absurd (omega (arith, zero s r h l)); unseen = λ j i w. none (s * g .readings + r) j (within s r h l) i }
 
 -- every next state is one of as many as a circuit may have
-pub next-low : (readings controls : ℕ) (c : Circuit) → played readings controls c .states ≤ 2 ^ base .latches → (s r j : ℕ) → ((played readings controls c) .step s r j) .next < 2 ^ base .latches
+next-low : (readings controls : ℕ) (c : Circuit) → played readings controls c .states ≤ 2 ^ base .latches → (s r j : ℕ) → ((played readings controls c) .step s r j) .next < 2 ^ base .latches
 unfolding played step
 next-low readings controls c h s r j = lt-of-lt-of-le (next-below c s r j) h
+
+-- before the first look nothing is kept of a circuit's game
+pub played-start : (readings controls : ℕ) (c : Circuit) (ranks : ℕ → ℕ) (k : ℕ) (looked slots : List ℕ) → played readings controls c .states ≤ 2 ^ base .latches → looked ≡ table (λ i. 0) (placesOf (played readings controls c)) → slots ≡ table (λ i. nowhere) (placesOf (played readings controls c) * window) → AllKept (played readings controls c) ranks k looked slots
+unfolding played
+played-start readings controls c ranks k looked slots few e f = kept-start (played readings controls c) ranks k looked slots (next-low readings controls c few) few (omega arith) e f
 
 -- a slot keeps that is the least to do so, or none does and the search goes on behind its window
 module _ (controls : ℕ) (c : Circuit) (ranks : ℕ → ℕ) (k s r windows : ℕ) (slot : ℕ → ℕ) (kept : KeptAt (played 0 controls c) ranks k s r windows slot) (j : ℕ) (first : j ≡ least (λ x. slotKeeps (notRanked ranks k) (slot x)) window) where
@@ -162,11 +176,14 @@ module _ (readings controls : ℕ) (c : Circuit) (ranks : ℕ → ℕ) (k : ℕ)
           turned = omega arith
 
 -- the place of a reading of a state lies in the lists, wherever the first one's does
-pub place-fits : (readings controls : ℕ) (c : Circuit) (ranks : ℕ → ℕ) (k : ℕ) (looked slots : List ℕ) → AllKept (played readings controls c) ranks k looked slots → (s r n : ℕ) → s < (played readings controls c) .states → n ≡ min readings (2 ^ base .uncontrollable) → r < n → s * n + r < 2 ^ base .latches * 2 ^ base .uncontrollable
+pub place-fits : (readings controls : ℕ) (c : Circuit) (ranks : ℕ → ℕ) (k : ℕ) (looked slots : List ℕ) → AllKept (played readings controls c) ranks k looked slots → (s r n : ℕ) → s < (played readings controls c) .states → n ≡ min readings (2 ^ base .uncontrollable) → r < n → (s * n + r < length looked) × (s * n + r < full)
 unfolding played
-place-fits readings controls c ranks k looked slots all s r n h e l = rw e (place-within (played readings controls c) ranks k looked slots all s r h (subst (λ (m : ℕ). r < m) e l))
+place-fits readings controls c ranks k looked slots all s r n h e l = (omega (arith, within, all .looked-long), lt-of-lt-of-le within (places-most (played readings controls c)))
+  where
+    within : s * n + r < placesOf (played readings controls c)
+    within = rw e (place-within (played readings controls c) ranks k looked slots all s r h (subst (λ (m : ℕ). r < m) e l))
 
-pub first-fits : (readings controls : ℕ) (c : Circuit) (ranks : ℕ → ℕ) (k : ℕ) (looked slots : List ℕ) → AllKept (played readings controls c) ranks k looked slots → (s n : ℕ) → s < (played readings controls c) .states → n ≡ min readings (2 ^ base .uncontrollable) → s * n ≤ 2 ^ base .latches * 2 ^ base .uncontrollable
+pub first-fits : (readings controls : ℕ) (c : Circuit) (ranks : ℕ → ℕ) (k : ℕ) (looked slots : List ℕ) → AllKept (played readings controls c) ranks k looked slots → (s n : ℕ) → s < (played readings controls c) .states → n ≡ min readings (2 ^ base .uncontrollable) → s * n ≤ full
 unfolding played
 first-fits readings controls c ranks k looked slots all s n h e = mul-le-mul low narrow
   where

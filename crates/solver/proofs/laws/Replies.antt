@@ -19,10 +19,12 @@ use Rattle.solver.specs.Played.{played}
 use Rattle.solver.specs.AllKept.{KeptAt, AllKept}
 use Rattle.solver.specs.Fair.{Fair}
 use Rattle.solver.specs.Over.{replyOver}
+use Rattle.solver.specs.PlacesOf.{full, placesOf}
 use Rattle.solver.specs.RankTable.{rankTable}
 use Rattle.solver.specs.Solution.{replyTable}
 use Rattle.solver.specs.Window.{window, slotsAt}
 use Rattle.solver.proofs.laws.Kept.{look-start}
+use Rattle.solver.proofs.laws.PlacesOf.{places-enough}
 use Rattle.solver.proofs.laws.Over.{reply-over-is-reply}
 
 -- a reply doesn't look at how many readings there are
@@ -55,19 +57,25 @@ replies-end readings controls states c ranks some fair e = table-same _ _ (2 ^ b
 
 -- the places of so many replies lie in the lists
 pub record Places (n : ℕ) (looked slots : List ℕ) : Type 0 where
-  pub few : n ≤ 2 ^ base .latches * 2 ^ base .uncontrollable
-  pub looked-long : length looked ≡ 2 ^ base .latches * 2 ^ base .uncontrollable
-  pub slots-long : length slots ≡ 2 ^ base .latches * 2 ^ base .uncontrollable * window
+  pub few : n ≤ full
+  pub looked-long : n ≤ length looked
+  pub slots-long : n * window ≤ length slots
 
 module _ (readings controls : ℕ) (c : Circuit) (ranks : ℕ → ℕ) (k : ℕ) (looked slots : List ℕ) (all : AllKept (played readings controls c) ranks k looked slots) (states width : ℕ) (some-states : states ≤ (played readings controls c) .states) (width-is : width ≡ min readings (2 ^ base .uncontrollable)) where
   pub places : Places (states * width) looked slots
-  places = record { few = mul-le-mul low narrow; looked-long = all .looked-long; slots-long = all .slots-long }
+  places = record { few = mul-le-mul low narrow; looked-long = omega (arith, within, all .looked-long); slots-long = omega (arith, within, all .slots-long) }
     where
       low : states ≤ 2 ^ base .latches
       low = omega (arith, all .few-states)
 
       narrow : width ≤ 2 ^ base .uncontrollable
       narrow = omega arith
+
+      narrower : width ≤ (played readings controls c) .readings
+      narrower = omega (arith, width-is, readings-are readings controls c)
+
+      within : states * width ≤ placesOf (played readings controls c)
+      within = omega (arith, mul-le-mul some-states narrower, places-enough (played readings controls c) (all .few-states) (all .few-readings))
 
   module _ (some : 0 < readings) (i : ℕ) (within : i < states * width) where
     wide : 0 < width

@@ -8,7 +8,6 @@ use borrow.Author.Needs.{needs}
 use Rattle.circuit.specs.Stored.{lent}
 use Rattle.circuit.proofs.laws.Counts.{lent-latches, lent-controllable, lent-others}
 use Rattle.solver.specs.Solution.{solutionOf}
-use Rattle.solver.proofs.laws.Ready.{ready-first}
 use Rattle.solver.proofs.laws.Solved.{played-solvable, many-readings-solution, many-controls-solution}
 use Rattle.solver.proofs.solve_lent.Statement.{statement}
 use Rattle.solver.proofs.solve_lent.Tie as tie
@@ -41,15 +40,6 @@ returns-2 c = let w = c .before .before .before in
 fewer-requires : tie.Need-fewer-requires
 fewer-requires c κs = search needs
 
-highest-requires : tie.Need-highest-requires
-highest-requires c κs = search needs
-
-highest-requires-2 : tie.Need-highest-requires-2
-highest-requires-2 c κs = search needs
-
-highest-requires-3 : tie.Need-highest-requires-3
-highest-requires-3 c κs = search needs
-
 numbers-requires : tie.Need-numbers-requires
 numbers-requires c κs = search needs
 
@@ -60,19 +50,16 @@ numbers-requires-3 : tie.Need-numbers-requires-3
 numbers-requires-3 c κs = search needs
 
 rounds-requires : tie.Need-rounds-requires
-rounds-requires c κs = let g = c .before .before .before in
-    let l = g .before .before .before in
-    let s = c .before .before .before .before .before .before .before .before .before .before .before .before .before .before .before .before .before in
+rounds-requires c κs = let s = c .before .before .before .before .before .before .before .before .before .before .before .before .before .before in
     let a = s .args in
-    (ready-first (a .input .now) (a .latch .now) (a .gate .now) (a .left .now) (a .right .now) (g .before .before .highest .result) (g .before .highest2 .result) (g .highest3 .result) (g .before .before .highest .ensures) (g .before .highest2 .ensures) (g .highest3 .ensures) (s .pre), (rw (c .before .before .numbers .ensures) (pow-pos _), (rw (c .before .numbers2 .ensures) (pow-pos _), c .numbers3 .ensures ∙ ap (λ (n : ℕ). 2 ^ n) (l .fewer .ensures ∙ sym (lent-latches 0 (a .input .now) (a .controllable .now) (a .latch .now) (a .next .now) (a .output) (a .gate .now) (a .left .now) (a .right .now))))))
+    (s .pre, (rw (c .before .before .numbers .ensures) (pow-pos _), (rw (c .before .numbers2 .ensures) (pow-pos _), c .numbers3 .ensures ∙ ap (λ (n : ℕ). 2 ^ n) (c .before .before .before .fewer .ensures ∙ sym (lent-latches 0 (a .input .now) (a .controllable .now) (a .latch .now) (a .next .now) (a .output) (a .gate .now) (a .left .now) (a .right .now))))))
 
 returns-3 : tie.Need-returns-3
-returns-3 c = let n = c .before .before in
-    let w = c .before .before .before .before .before .before .before .before .before .before in
-    let a = w .before .before .before .before .before .before .before .before .args in
-    let u = lent-others 0 (a .input .now) (a .controllable .now) (a .latch .now) (a .next .now) (a .output) (a .gate .now) (a .left .now) (a .right .now) (w .controllable-count .result) (w .controllable-count .ensures) in
+returns-3 c = let a = c .before .before .before .before .before .before .before .before .before .before .before .before .before .before .before .args in
+    let w = c .before .before .before .before .before .before .before .controllable-count in
+    let u = lent-others 0 (a .input .now) (a .controllable .now) (a .latch .now) (a .next .now) (a .output) (a .gate .now) (a .left .now) (a .right .now) (w .result) (w .ensures) in
     let same = lent-controllable 0 (a .input .now) (a .controllable .now) (a .latch .now) (a .next .now) (a .output) (a .gate .now) (a .left .now) (a .right .now) in
-    c .rounds .ensures ∙ ap solutionOf (played-solvable (lent 0 (a .input .now) (a .controllable .now) (a .latch .now) (a .next .now) (a .output) (a .gate .now) (a .left .now) (a .right .now)) (length (a .input .now) - w .controllable-count .result) (w .controllable-count .result) (n .before .numbers .result) (n .numbers2 .result) (u .1) (w .controllable-count .ensures ∙ sym same) (omega (arith, c .before .before .before .before .before .before .before .before .before .if1 .left)) (omega (arith, c .before .before .before .before .before .before .before .before .if2 .left)) (n .before .numbers .ensures) (n .numbers2 .ensures))
+    c .rounds .ensures ∙ ap solutionOf (played-solvable (lent 0 (a .input .now) (a .controllable .now) (a .latch .now) (a .next .now) (a .output) (a .gate .now) (a .left .now) (a .right .now)) (length (a .input .now) - w .result) (w .result) (c .before .before .before .numbers .result) (c .before .before .numbers2 .result) (u .1) (w .ensures ∙ sym same) (omega (arith, c .before .before .before .before .before .before .if1 .left)) (omega (arith, c .before .before .before .before .before .if2 .left)) (c .before .before .before .numbers .ensures) (c .before .before .numbers2 .ensures))
 
 pub solve-lent-spec : {M : Type 1} → statement M
 solve-lent-spec =
@@ -85,9 +72,6 @@ solve-lent-spec =
     nothing-requires-2
     returns-2
     fewer-requires
-    highest-requires
-    highest-requires-2
-    highest-requires-3
     numbers-requires
     numbers-requires-2
     numbers-requires-3

@@ -35,14 +35,15 @@ add-look-at : tie.Need-add-look-at Inv-loop μ-loop
 add-look-at c = let s = c .before .before .before .before .before .before .before .before .before .before .before .before .before .before in
     let a = s .args in
     let n = c .before .before .before in
-    omega (arith, place-fits (a .readings) (a .controls) (lent 0 (a .input .now) (a .controllable .now) (a .latch .now) (a .next .now) (a .output) (a .gate .now) (a .left .now) (a .right .now)) (ranksIn (a .ranks .now)) (a .k) (a .looked .now) (a .slots .now) (s .pre .1 .1) (a .state) (c .before .before .loop .r) (n .fewer .result) (s .pre .1 .0) (n .fewer .ensures) (c .before .loop-test .taken))
+    omega (arith, place-fits (a .readings) (a .controls) (lent 0 (a .input .now) (a .controllable .now) (a .latch .now) (a .next .now) (a .output) (a .gate .now) (a .left .now) (a .right .now)) (ranksIn (a .ranks .now)) (a .k) (a .looked .now) (a .slots .now) (s .pre .1 .1) (a .state) (c .before .before .loop .r) (n .fewer .result) (s .pre .1 .0) (n .fewer .ensures) (c .before .loop-test .taken) .1)
 
 look-at-requires : tie.Need-look-at-requires Inv-loop μ-loop
 look-at-requires c κs = let s = c .before .before .before .before .before .before .before .before .before .before .before .before .before .before .before .before in
     let a = s .args in
     let n = c .before .before .before .before .before in
-    let l = c .before .before .before .before in
-    (l .loop .inv .2, (s .pre .1 .0, (omega arith, (ap (λ (m : ℕ). a .state * m + l .loop .r) (n .fewer .ensures), (place-fits (a .readings) (a .controls) (lent 0 (a .input .now) (a .controllable .now) (a .latch .now) (a .next .now) (a .output) (a .gate .now) (a .left .now) (a .right .now)) (ranksIn (a .ranks .now)) (a .k) (a .looked .now) (a .slots .now) (s .pre .1 .1) (a .state) (l .loop .r) (n .fewer .result) (s .pre .1 .0) (n .fewer .ensures) (c .before .before .before .loop-test .taken), l .loop .inv .1)))))
+    let l = c .before .before .before .before .loop in
+    let fits = place-fits (a .readings) (a .controls) (lent 0 (a .input .now) (a .controllable .now) (a .latch .now) (a .next .now) (a .output) (a .gate .now) (a .left .now) (a .right .now)) (ranksIn (a .ranks .now)) (a .k) (l .looked) (l .slots) (l .inv .1) (a .state) (l .r) (n .fewer .result) (s .pre .1 .0) (n .fewer .ensures) (c .before .before .before .loop-test .taken) in
+    (l .inv .2, (s .pre .1 .0, (omega arith, (ap (λ (m : ℕ). a .state * m + l .r) (n .fewer .ensures), (fits .1, (fits .0, l .inv .1))))))
 
 same-length : tie.Need-same-length Inv-loop μ-loop
 same-length c = c .before .before .before .before .before .look-at .ensures .1 .looked-long ∙ sym (c .before .before .before .before .before .before .before .before .before .before .before .before .before .before .before .before .before .before .before .before .before .before .pre .1 .1 .looked-long)

@@ -28,7 +28,7 @@ unfolding slotsAt
 returns c = let j = c .before in
     let s = j .before .before .before .before .before .before .before .before .before .before .before .before in
     let a = s .args in
-    (look-still (a .readings) (a .controls) (lent 0 (a .input .now) (a .controllable .now) (a .latch .now) (a .next .now) (a .output) (a .gate .now) (a .left .now) (a .right .now)) (ranksIn (a .ranks .now)) (a .k) (a .looked .now) (a .slots .now) (s .pre .1 .1 .1 .1 .1) (a .state) (a .reading) (a .i) (s .pre .1 .0) (s .pre .1 .1 .0) (s .pre .1 .1 .1 .0) (j .keeping-slot .result) _ (j .keeping-slot .ensures) refl (c .if1 .taken), s .pre .1 .1 .1 .1 .1, s .pre .0)
+    (look-still (a .readings) (a .controls) (lent 0 (a .input .now) (a .controllable .now) (a .latch .now) (a .next .now) (a .output) (a .gate .now) (a .left .now) (a .right .now)) (ranksIn (a .ranks .now)) (a .k) (a .looked .now) (a .slots .now) (s .pre .1 .1 .1 .1 .1 .1) (a .state) (a .reading) (a .i) (s .pre .1 .0) (s .pre .1 .1 .0) (s .pre .1 .1 .1 .0) (j .keeping-slot .result) _ (j .keeping-slot .ensures) refl (c .if1 .taken), s .pre .1 .1 .1 .1 .1 .1, s .pre .0)
 
 cast-keeping-from : tie.Need-cast-keeping-from
 cast-keeping-from c = search needs
@@ -39,12 +39,12 @@ slice-read-keeping-from c = search needs
 cast-keeping-from-2 : tie.Need-cast-keeping-from-2
 cast-keeping-from-2 c = let s = c .before .before .before .before .before .before .before .before .before .before .before .before .before .before .before in
     let a = s .args in
-    omega (arith, (look-start (a .readings) (a .controls) (lent 0 (a .input .now) (a .controllable .now) (a .latch .now) (a .next .now) (a .output) (a .gate .now) (a .left .now) (a .right .now)) (ranksIn (a .ranks .now)) (a .k) (a .looked .now) (a .slots .now) (s .pre .1 .1 .1 .1 .1) (a .state) (a .reading) (a .i) (s .pre .1 .0) (s .pre .1 .1 .0) (s .pre .1 .1 .1 .0)) .few)
+    omega (arith, (look-start (a .readings) (a .controls) (lent 0 (a .input .now) (a .controllable .now) (a .latch .now) (a .next .now) (a .output) (a .gate .now) (a .left .now) (a .right .now)) (ranksIn (a .ranks .now)) (a .k) (a .looked .now) (a .slots .now) (s .pre .1 .1 .1 .1 .1 .1) (a .state) (a .reading) (a .i) (s .pre .1 .0) (s .pre .1 .1 .0) (s .pre .1 .1 .1 .0)) .few)
 
 mul-keeping-from : tie.Need-mul-keeping-from
 mul-keeping-from c = let s = c .before .before .before .before .before .before .before .before .before .before .before .before .before .before .before in
     let a = s .args in
-    omega (arith, (look-start (a .readings) (a .controls) (lent 0 (a .input .now) (a .controllable .now) (a .latch .now) (a .next .now) (a .output) (a .gate .now) (a .left .now) (a .right .now)) (ranksIn (a .ranks .now)) (a .k) (a .looked .now) (a .slots .now) (s .pre .1 .1 .1 .1 .1) (a .state) (a .reading) (a .i) (s .pre .1 .0) (s .pre .1 .1 .0) (s .pre .1 .1 .1 .0)) .few)
+    omega (arith, (look-start (a .readings) (a .controls) (lent 0 (a .input .now) (a .controllable .now) (a .latch .now) (a .next .now) (a .output) (a .gate .now) (a .left .now) (a .right .now)) (ranksIn (a .ranks .now)) (a .k) (a .looked .now) (a .slots .now) (s .pre .1 .1 .1 .1 .1 .1) (a .state) (a .reading) (a .i) (s .pre .1 .0) (s .pre .1 .1 .0) (s .pre .1 .1 .1 .0)) .few)
 
 keeping-from-requires : tie.Need-keeping-from-requires
 keeping-from-requires c κs = c .before .before .before .before .before .before .before .before .before .before .before .before .before .before .before .pre .0
@@ -62,7 +62,7 @@ returns-2 c = let n = c .before .before in
     let j = f .before .before .before .before in
     let s = j .before .before .before .before .before .before .before .before .before .before .before .before in
     let a = s .args in
-    (sym (le-leb _ _ (c .if2 .taken)) ∙ look-defeats (a .readings) (a .controls) (lent 0 (a .input .now) (a .controllable .now) (a .latch .now) (a .next .now) (a .output) (a .gate .now) (a .left .now) (a .right .now)) (ranksIn (a .ranks .now)) (a .k) (a .looked .now) (a .slots .now) (s .pre .1 .1 .1 .1 .1) (a .state) (a .reading) (a .i) (s .pre .1 .0) (s .pre .1 .1 .0) (s .pre .1 .1 .1 .0) (j .keeping-slot .result) (n .fewer .result) (j .keeping-slot .ensures) (n .fewer .ensures) (f .before .before .before .if1 .left) (f .keeping-from .result .control) (f .keeping-from .ensures .0), s .pre .1 .1 .1 .1 .1, f .keeping-from .ensures .2)
+    (sym (le-leb _ _ (c .if2 .taken)) ∙ look-defeats (a .readings) (a .controls) (lent 0 (a .input .now) (a .controllable .now) (a .latch .now) (a .next .now) (a .output) (a .gate .now) (a .left .now) (a .right .now)) (ranksIn (a .ranks .now)) (a .k) (a .looked .now) (a .slots .now) (s .pre .1 .1 .1 .1 .1 .1) (a .state) (a .reading) (a .i) (s .pre .1 .0) (s .pre .1 .1 .0) (s .pre .1 .1 .1 .0) (j .keeping-slot .result) (n .fewer .result) (j .keeping-slot .ensures) (n .fewer .ensures) (f .before .before .before .if1 .left) (f .keeping-from .result .control) (f .keeping-from .ensures .0), s .pre .1 .1 .1 .1 .1 .1, f .keeping-from .ensures .2)
 
 add-looked : tie.Need-add-looked
 add-looked c = search needs
@@ -71,7 +71,7 @@ cast-looked : tie.Need-cast-looked
 cast-looked c = search needs
 
 slice-write-looked : tie.Need-slice-write-looked
-slice-write-looked c = let s = c .before .before .before .before .before .before .before .before .before .before .before .before .before .before .before .before .before .before .before .before .before .before in omega (arith, s .pre .1 .1 .1 .1 .0, s .pre .1 .1 .1 .1 .1 .looked-long)
+slice-write-looked c = let s = c .before .before .before .before .before .before .before .before .before .before .before .before .before .before .before .before .before .before .before .before .before .before in s .pre .1 .1 .1 .1 .1 .0
 
 mul-put-window : tie.Need-mul-put-window
 mul-put-window c = let s = c .before .before .before .before .before .before .before .before .before .before .before .before .before .before .before .before .before .before .before .before .before .before .before in omega (arith, s .pre .1 .1 .1 .1 .0)
@@ -89,7 +89,7 @@ sub-put-window : tie.Need-sub-put-window
 sub-put-window c = search needs
 
 put-window-requires : tie.Need-put-window-requires
-put-window-requires c κs = let s = c .before .before .before .before .before .before .before .before .before .before .before .before .before .before .before .before .before .before .before .before .before .before .before .before in (omega (arith, s .pre .1 .1 .1 .1 .0, s .pre .1 .1 .1 .1 .1 .slots-long), omega arith)
+put-window-requires c κs = let s = c .before .before .before .before .before .before .before .before .before .before .before .before .before .before .before .before .before .before .before .before .before .before .before .before in (omega (arith, s .pre .1 .1 .1 .1 .1 .0, s .pre .1 .1 .1 .1 .1 .1 .looked-long, s .pre .1 .1 .1 .1 .1 .1 .slots-long), omega arith)
 
 same-length-3 : tie.Need-same-length-3
 same-length-3 c = search needs
@@ -105,7 +105,7 @@ returns-3 c = let n = c .before .before .before .before .before .before .before 
     let s = j .before .before .before .before .before .before .before .before .before .before .before .before in
     let a = s .args in
     let less = c .before .before .before .before .before .before .before .before .if2 .left in
-    (sym (lt-leb (n .fewer .result) _ less) ∙ look-defeats (a .readings) (a .controls) (lent 0 (a .input .now) (a .controllable .now) (a .latch .now) (a .next .now) (a .output) (a .gate .now) (a .left .now) (a .right .now)) (ranksIn (a .ranks .now)) (a .k) (a .looked .now) (a .slots .now) (s .pre .1 .1 .1 .1 .1) (a .state) (a .reading) (a .i) (s .pre .1 .0) (s .pre .1 .1 .0) (s .pre .1 .1 .1 .0) (j .keeping-slot .result) (n .fewer .result) (j .keeping-slot .ensures) (n .fewer .ensures) (f .before .before .before .if1 .left) (f .keeping-from .result .control) (f .keeping-from .ensures .0), subst (λ (l : List ℕ). AllKept (played (a .readings) (a .controls) (lent 0 (a .input .now) (a .controllable .now) (a .latch .now) (a .next .now) (a .output) (a .gate .now) (a .left .now) (a .right .now))) (ranksIn (a .ranks .now)) (a .k) (set (a .looked .now) (a .i) (f .keeping-from .result .control / window + 1)) l) (sym (c .before .before .put-window .ensures)) (look-kept (a .readings) (a .controls) (lent 0 (a .input .now) (a .controllable .now) (a .latch .now) (a .next .now) (a .output) (a .gate .now) (a .left .now) (a .right .now)) (ranksIn (a .ranks .now)) (a .k) (a .looked .now) (a .slots .now) (s .pre .1 .1 .1 .1 .1) (a .state) (a .reading) (a .i) (s .pre .1 .0) (s .pre .1 .1 .0) (s .pre .1 .1 .1 .0) (j .keeping-slot .result) (n .fewer .result) (j .keeping-slot .ensures) (n .fewer .ensures) (f .before .before .before .if1 .left) (f .keeping-from .result .control) (f .keeping-from .ensures .0) (f .keeping-from .result .steps) less (f .keeping-from .ensures .1 (subst (λ (m : ℕ). f .keeping-from .result .control < m) (n .fewer .ensures) less))), f .keeping-from .ensures .2)
+    (sym (lt-leb (n .fewer .result) _ less) ∙ look-defeats (a .readings) (a .controls) (lent 0 (a .input .now) (a .controllable .now) (a .latch .now) (a .next .now) (a .output) (a .gate .now) (a .left .now) (a .right .now)) (ranksIn (a .ranks .now)) (a .k) (a .looked .now) (a .slots .now) (s .pre .1 .1 .1 .1 .1 .1) (a .state) (a .reading) (a .i) (s .pre .1 .0) (s .pre .1 .1 .0) (s .pre .1 .1 .1 .0) (j .keeping-slot .result) (n .fewer .result) (j .keeping-slot .ensures) (n .fewer .ensures) (f .before .before .before .if1 .left) (f .keeping-from .result .control) (f .keeping-from .ensures .0), subst (λ (l : List ℕ). AllKept (played (a .readings) (a .controls) (lent 0 (a .input .now) (a .controllable .now) (a .latch .now) (a .next .now) (a .output) (a .gate .now) (a .left .now) (a .right .now))) (ranksIn (a .ranks .now)) (a .k) (set (a .looked .now) (a .i) (f .keeping-from .result .control / window + 1)) l) (sym (c .before .before .put-window .ensures)) (look-kept (a .readings) (a .controls) (lent 0 (a .input .now) (a .controllable .now) (a .latch .now) (a .next .now) (a .output) (a .gate .now) (a .left .now) (a .right .now)) (ranksIn (a .ranks .now)) (a .k) (a .looked .now) (a .slots .now) (s .pre .1 .1 .1 .1 .1 .1) (a .state) (a .reading) (a .i) (s .pre .1 .0) (s .pre .1 .1 .0) (s .pre .1 .1 .1 .0) (j .keeping-slot .result) (n .fewer .result) (j .keeping-slot .ensures) (n .fewer .ensures) (f .before .before .before .if1 .left) (f .keeping-from .result .control) (f .keeping-from .ensures .0) (f .keeping-from .result .steps) less (f .keeping-from .ensures .1 (subst (λ (m : ℕ). f .keeping-from .result .control < m) (n .fewer .ensures) less))), f .keeping-from .ensures .2)
 
 pub look-at-spec : {M : Type 1} → statement M
 look-at-spec =

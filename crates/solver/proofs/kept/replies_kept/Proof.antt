@@ -69,7 +69,7 @@ reply-kept-requires c κs = let w = c .before .before .before .before .before in
     let s = w .before .before .before .before .before .before .before .before .before .before .before in
     let a = s .args in
     let l = c .before .before .before .loop in
-    (l .inv .4, (s .pre .1 .1 .1 .0, (omega (arith, l .inv .2, l .inv .3 .few), (l .inv .3 .slots-long, kept-there (a .readings) (a .controls) (lent 0 (a .input .now) (a .controllable .now) (a .latch .now) (a .next .now) (a .output) (a .gate .now) (a .left .now) (a .right .now)) (ranksIn (a .ranks .now)) (a .k) (a .looked .now) (a .slots .now) (s .pre .1 .1 .1 .1) (a .states) (w .fewer .result) (s .pre .1 .1 .0) (w .fewer .ensures) (s .pre .1 .0) (l .i) (c .before .before .loop-test .taken)))))
+    (l .inv .4, (s .pre .1 .1 .1 .0, (omega (arith, l .inv .2, l .inv .3 .few), (omega (arith, l .inv .3 .slots-long, c .before .before .loop-test .taken), kept-there (a .readings) (a .controls) (lent 0 (a .input .now) (a .controllable .now) (a .latch .now) (a .next .now) (a .output) (a .gate .now) (a .left .now) (a .right .now)) (ranksIn (a .ranks .now)) (a .k) (a .looked .now) (a .slots .now) (s .pre .1 .1 .1 .1) (a .states) (w .fewer .result) (s .pre .1 .1 .0) (w .fewer .ensures) (s .pre .1 .0) (l .i) (c .before .before .loop-test .taken)))))
 
 array-write-replies : tie.Need-array-write-replies Inv-loop μ-loop
 array-write-replies c = search needs
