@@ -9,7 +9,7 @@ use Rattle.below.specs.Least.{least}
 use Rattle.below.specs.Table.{table}
 use Rattle.game.specs.Game.{Game}
 use Rattle.game.specs.Rank.{defeats}
-use Rattle.solver.specs.Played.{ranksIn}
+use Rattle.keeping.specs.RankList.{ranksIn}
 use Rattle.solver.specs.Over.{found}
 
 unfoldable pub attackAfter : Game → (k : ℕ) (ranks : List ℕ) (attack state : ℕ) → ℕ

@@ -7,7 +7,7 @@ use lib.Dec.{ltb}
 use Rattle.below.specs.Least.{least}
 use Rattle.game.specs.Game.{Game}
 use Rattle.game.specs.Keeps.{keeps}
-use Rattle.solver.specs.Played.{ranksIn}
+use Rattle.keeping.specs.RankList.{ranksIn}
 
 -- the set of the states of rank 0
 unfoldable pub rankZero : List ℕ → (state : ℕ) → Bool

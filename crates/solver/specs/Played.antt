@@ -1,8 +1,5 @@
--- The game of a circuit (01, "The game") with so many readings and controls, no more than a circuit may have; and a list of ranks as a
--- function on states. Assumes nothing.
+-- The game of a circuit (01, "The game") with so many readings and controls, no more than a circuit may have. Assumes nothing.
 use Prim.Native.Nat.{ℕ, _^_, min}
-use mathlib.Core.List.{List}
-use lib.ListN.{getD}
 use Rattle.circuit.specs.Circuit.{Circuit, latchCount}
 use Rattle.circuit.specs.Limits.{base}
 use Rattle.game.specs.Game.{Game}
@@ -16,7 +13,3 @@ played readings controls c =
       controls = min controls (2 ^ base .controllable);
       step = step c;
     }
-
--- states that aren't there have rank 0
-unfoldable pub ranksIn : List ℕ → (state : ℕ) → ℕ
-ranksIn ranks = λ s. getD ranks s 0

@@ -8,7 +8,7 @@ use Rattle.below.specs.Table.{table}
 use Rattle.circuit.specs.Limits.{base}
 use Rattle.game.specs.Game.{Game}
 use Rattle.game.specs.Rank.{round, rank}
-use Rattle.solver.specs.Played.{ranksIn}
+use Rattle.keeping.specs.RankList.{ranksIn}
 
 unfoldable pub rankTable : Game → List ℕ
 rankTable g = table (λ s. cond (ltb s (g .states)) (rank g s) 0) (2 ^ base .latches)

@@ -1,11 +1,10 @@
 -- A window: eight controls in turn, and where each leads (01, "The game"). Assumes nothing.
-use Prim.Native.Nat.{ℕ, _+_, _*_, _-_, _^_}
+use Prim.Native.Nat.{ℕ, _+_, _*_, _-_}
 use mathlib.Core.Bool.{Bool, cond, not, _&&_}
 use mathlib.Core.List.{List}
 use lib.Dec.{ltb}
 use lib.ListN.{length, getD}
 use Rattle.below.specs.Table.{table}
-use Rattle.circuit.specs.Limits.{base}
 use Rattle.game.specs.Game.{Game}
 use Rattle.lanes.specs.Lane.{lane, laneNumber}
 
@@ -24,10 +23,6 @@ leads g s r c = cond (ltb c (g .controls) && not ((g .step s r c) .error)) ((g .
 -- the same in a lane of a block of steps, for a control that is there or not
 unfoldable pub leadsIn : (error : ℕ) (next : List ℕ) (j : ℕ) → Bool → ℕ
 leadsIn error next j there = cond (there && not (lane error j)) (laneNumber next j) nowhere
-
--- a slot holds a state of the set
-unfoldable pub slotKeeps : (ℕ → Bool) → ℕ → Bool
-slotKeeps set slot = ltb slot (2 ^ base .latches) && set slot
 
 -- the slots of a place: a list has those of one place after those of another
 unfoldable pub slotsAt : List ℕ → (place : ℕ) → ℕ → ℕ

@@ -1,7 +1,7 @@
 // The search for a control that keeps, a block of 64 at a time (01, "The game"): no error, and a next state in the set.
-use crate::rank_list::is_unranked;
 use crate::ready::step_ready;
 use circuit::Circuit;
+use keeping::lane::keeping_lane;
 use lanes::Lanes;
 use lanes::WORDS;
 use step::Reading;
@@ -10,12 +10,12 @@ ghost use mathlib.Core.Path.{_≡_};
 ghost use Rattle.below.specs.LeastFrom.{leastFrom};
 ghost use Rattle.circuit.specs.Limits.{base};
 ghost use Rattle.circuit.specs.Stored.{lent};
-ghost use Rattle.game.specs.InLane.{keepsIn};
 ghost use Rattle.game.specs.Keeps.{keeps};
 ghost use Rattle.game.specs.Rank.{notRanked};
+ghost use Rattle.keeping.specs.RankList.{ranksIn};
 ghost use Rattle.lanes.specs.Block.{BlockOf};
 ghost use Rattle.lanes.specs.Lane.{width};
-ghost use Rattle.solver.specs.Played.{played, ranksIn};
+ghost use Rattle.solver.specs.Played.{played};
 ghost use Rattle.solver.specs.Ready.{Ready};
 
 // A control that keeps and the steps of its block; or as many as there are controls.
@@ -84,38 +84,6 @@ fn no_steps() -> Lanes {
     Lanes {
         error: 0,
         next: [0u64; Circuit::LATCHES],
-    }
-}
-
-// The least lane from one on, below an end, that keeps; or the end.
-fn keeping_lane<'a>(
-    error: u64,
-    next: &'a [u64],
-    ranks: &'a [u16],
-    bound: u16,
-    from: usize,
-    end: usize,
-) -> usize
-    requires { ⌜ from ≤ end ⌝ }
-    ensures { λ r. ⌜ r ≡ leastFrom (keepsIn (notRanked (ranksIn (now (ranks .entry))) bound) error (now (next .entry))) from end ⌝ }
-{
-    let mut j = from;
-    while j < end {
-        if keeps_in(error, next, ranks, bound, j) {
-            return j;
-        }
-        j += 1;
-    }
-    end
-}
-
-fn keeps_in<'a>(error: u64, next: &'a [u64], ranks: &'a [u16], bound: u16, j: usize) -> bool
-    ensures { λ r. ⌜ r ≡ keepsIn (notRanked (ranksIn (now (ranks .entry))) bound) error (now (next .entry)) j ⌝ }
-{
-    if lanes::is_lane(error, j) {
-        false
-    } else {
-        is_unranked(ranks, bound, lanes::lane_number(next, j) as usize)
     }
 }
 

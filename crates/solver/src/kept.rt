@@ -2,12 +2,12 @@
 // control of that window leads. Ranks only grow, so a control that stopped keeping never keeps again, and a search goes on behind the
 // windows looked at.
 use crate::blocks::keeping_from;
-use crate::rank_list::rank_at;
 use crate::window::NOWHERE;
 use crate::window::WINDOW;
 use crate::window::keeping_slot;
 use crate::window::put_window;
 use circuit::Circuit;
+use keeping::rank_list::rank_at;
 use lanes::WORDS;
 ghost use Prim.Native.Nat.{ℕ, _+_, _*_, _/_, _%_, _^_, min, _<_, _≤_};
 ghost use mathlib.Core.Bool.{cond};
@@ -20,7 +20,8 @@ ghost use Rattle.circuit.specs.Limits.{base};
 ghost use Rattle.circuit.specs.Stored.{lent};
 ghost use Rattle.game.specs.Keeps.{keeps};
 ghost use Rattle.game.specs.Rank.{notRanked, defeats};
-ghost use Rattle.solver.specs.Played.{played, ranksIn};
+ghost use Rattle.keeping.specs.RankList.{ranksIn};
+ghost use Rattle.solver.specs.Played.{played};
 ghost use Rattle.solver.specs.AllKept.{KeptAt, AllKept};
 ghost use Rattle.solver.specs.Over.{replyOver};
 ghost use Rattle.solver.specs.PlacesOf.{small, full};

@@ -2,7 +2,6 @@
 mod blocks;
 pub mod counts;
 mod kept;
-pub mod rank_list;
 mod ready;
 pub mod region;
 mod rounds;

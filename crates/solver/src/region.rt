@@ -1,8 +1,8 @@
 // The region as bytes (01, "The certificate", kind 2): state s at bit s mod 8 of byte s div 8; a bit that stands for no state is 0.
 use crate::counts::counted;
 use crate::numbers;
-use crate::rank_list::rank_at;
 use circuit::Circuit;
+use keeping::rank_list::rank_at;
 ghost use Prim.Native.Nat.{_/_, _^_, _<_, _≤_};
 ghost use mathlib.Core.Bool.{_&&_};
 ghost use mathlib.Core.Path.{_≡_};

@@ -1,15 +1,15 @@
 // A window: eight controls in turn, and where each leads (01, "The game").
-use crate::rank_list::is_unranked;
-use circuit::Circuit;
+use keeping::slot::slot_keeps;
 ghost use Prim.Native.Nat.{_+_, _≤_};
 ghost use lib.Dec.{ltb};
 ghost use lib.ListN.{length, getD};
 ghost use mathlib.Core.Path.{_≡_};
 ghost use Rattle.below.specs.Least.{least};
 ghost use Rattle.game.specs.Rank.{notRanked};
+ghost use Rattle.keeping.specs.RankList.{ranksIn};
+ghost use Rattle.keeping.specs.SlotKeeps.{slotKeeps};
 ghost use Rattle.lanes.specs.Lane.{width};
-ghost use Rattle.solver.specs.Played.{ranksIn};
-ghost use Rattle.solver.specs.Window.{window, leadsIn, slotKeeps, putSlots};
+ghost use Rattle.solver.specs.Window.{window, leadsIn, putSlots};
 
 // How many controls a window has.
 pub(crate) const WINDOW: usize = 8;
@@ -30,16 +30,6 @@ pub(crate) fn keeping_slot<'a>(slots: &'a [u16], at: usize, ranks: &'a [u16], k:
         j += 1;
     }
     WINDOW
-}
-
-fn slot_keeps(slot: u16, ranks: &[u16], k: u16) -> bool
-    ensures { λ r. ⌜ r ≡ slotKeeps (notRanked (ranksIn (now (ranks .entry))) k) slot ⌝ }
-{
-    if (slot as usize) < Circuit::STATES {
-        is_unranked(ranks, k, slot as usize)
-    } else {
-        false
-    }
 }
 
 // Puts where each control of a window leads, by the steps of its block: its first control is in a lane of them, and so many are there.

@@ -38,7 +38,7 @@ fn print_solved<'a>(
     attacks: &'a [u8],
 ) {
     let states = numbers(l);
-    let realizable = solver::rank_list::rank_at(ranks, 0) == 0;
+    let realizable = keeping::rank_list::rank_at(ranks, 0) == 0;
     let first = put_counts(page, realizable, l, u, c);
     if realizable {
         let end = put_region(page, first, states, numbers(u), ranks, replies);
@@ -114,7 +114,7 @@ fn put_region<'a>(
 
 fn put_membership(page: &mut [u8], at: usize, ranks: &[u16], s: usize) -> usize {
     let own = put_number(page, at, s as u64);
-    if solver::rank_list::rank_at(ranks, s) == 0 {
+    if keeping::rank_list::rank_at(ranks, s) == 0 {
         put_field(page, own, 1)
     } else {
         put_field(page, own, 0)
@@ -162,7 +162,7 @@ fn put_rank<'a>(
     s: usize,
 ) -> usize {
     let own = put_number(page, at, s as u64);
-    let rank = solver::rank_list::rank_at(ranks, s);
+    let rank = keeping::rank_list::rank_at(ranks, s);
     let head = put_field(page, own, rank as u64);
     let attack = byte_at(attacks, s);
     let both = put_small(page, head, attack);

@@ -11,7 +11,7 @@ ghost use Rattle.bits.specs.Digits.{digits};
 ghost use Rattle.bits.specs.InTurn.{inTurn};
 ghost use Rattle.bits.specs.Wrote.{Wrote};
 ghost use Rattle.circuit.specs.Limits.{base};
-ghost use Rattle.solver.specs.Played.{ranksIn};
+ghost use Rattle.keeping.specs.RankList.{ranksIn};
 ghost use Rattle.solver.specs.Over.{rankZero};
 ghost use Rattle.solver.specs.RegionTable.{regionByte};
 ghost use Rattle.writer.specs.Rows.{attackRow};
@@ -58,7 +58,7 @@ pub(crate) fn put_attacks<'a>(
     let mut behind = at;
     let mut s = 0;
     while s < states {
-        let rank = solver::rank_list::rank_at(ranks, s);
+        let rank = keeping::rank_list::rank_at(ranks, s);
         let attack = byte_at(attacks, s);
         behind = put_row(out, behind, rank, attack);
         s += 1;

@@ -40,7 +40,7 @@ use Rattle.game.proofs.laws.CircuitGame.{circuit-proper}
 use Rattle.game.proofs.laws.Rank.{ranks-are}
 use Rattle.game.proofs.laws.Region.{region-is-largest}
 use Rattle.game.proofs.laws.Verdict.{realizable-sound, realizable-complete}
-use Rattle.solver.specs.Played.{ranksIn}
+use Rattle.keeping.specs.RankList.{ranksIn}
 use Rattle.solver.specs.RankTable.{rankTable}
 use Rattle.solver.proofs.laws.RankTable.{rank-in-table}
 use Rattle.records.specs.AttackTable.{storedRank, storedAttack}

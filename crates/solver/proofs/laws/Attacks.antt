@@ -22,7 +22,7 @@ use Rattle.game.specs.Rank.{notRanked, defeats, defeated, round, ranksAfter, ra
 use Rattle.game.proofs.laws.Keeps.{defeated-by}
 use Rattle.game.proofs.laws.Rank.{settled}
 use Rattle.game.proofs.laws.Rounds.{Later, stays, none, after, later-than}
-use Rattle.solver.specs.Played.{ranksIn}
+use Rattle.keeping.specs.RankList.{ranksIn}
 use Rattle.solver.specs.AttacksAfter.{attackAfter, attacksAfter}
 use Rattle.solver.specs.Fair.{Fair}
 use Rattle.solver.specs.Over.{found}

@@ -25,14 +25,16 @@ use Rattle.game.proofs.laws.Rank.{ranked-is, is-ranked}
 use Rattle.lanes.specs.Block.{BlockOf}
 use Rattle.lanes.specs.Lane.{width}
 use Rattle.lanes.specs.declared.Lanes.{Lanes}
-use Rattle.solver.specs.Played.{played, ranksIn}
+use Rattle.keeping.specs.RankList.{ranksIn}
+use Rattle.solver.specs.Played.{played}
 use Rattle.solver.proofs.laws.Played.{none-defeats}
 use Rattle.step.specs.Step.{step}
 use Rattle.step.proofs.laws.Step.{next-below}
 use Rattle.solver.specs.AllKept.{KeptAt, AllKept}
 use Rattle.solver.specs.PlacesOf.{full, placesOf}
 use Rattle.solver.specs.RankTable.{roundTable}
-use Rattle.solver.specs.Window.{window, nowhere, leads, leadsIn, slotKeeps, slotsAt, putSlots}
+use Rattle.keeping.specs.SlotKeeps.{slotKeeps}
+use Rattle.solver.specs.Window.{window, nowhere, leads, leadsIn, slotsAt, putSlots}
 use Rattle.solver.proofs.laws.PlacesOf.{places-enough, places-most}
 use Rattle.solver.proofs.laws.Slots.{slots-put, slots-other, slots-length}
 use Rattle.solver.proofs.laws.Window.{slot-window, slot-there, slot-found, slot-on, slot-next, block-leads}

@@ -15,7 +15,7 @@ use Rattle.game.specs.Rank.{notRanked, inRegion}
 use Rattle.game.specs.Reply.{reply}
 use Rattle.game.proofs.laws.Keeps.{keeps-same}
 use Rattle.game.proofs.laws.Reply.{reply-is-control}
-use Rattle.solver.specs.Played.{ranksIn}
+use Rattle.keeping.specs.RankList.{ranksIn}
 use Rattle.solver.specs.Over.{rankZero, found, replyOver}
 use Rattle.solver.specs.RankTable.{rankTable}
 use Rattle.solver.proofs.laws.RankTable.{rank-in-table}

@@ -19,7 +19,7 @@ use Rattle.game.specs.Game.{Game, Proper}
 use Rattle.game.specs.Rank.{notRanked, defeats, defeated, round, ranksAfter, rank}
 use Rattle.game.proofs.laws.Keeps.{answered-same, defeated-by}
 use Rattle.game.proofs.laws.Rounds.{defeated-same, Still, still-ranks, rank-most}
-use Rattle.solver.specs.Played.{ranksIn}
+use Rattle.keeping.specs.RankList.{ranksIn}
 use Rattle.solver.specs.Fair.{Fair}
 use Rattle.solver.specs.RankTable.{rankTable, roundTable}
 

@@ -17,7 +17,7 @@ use Rattle.bits.specs.Digits.{sum}
 use Rattle.circuit.specs.Limits.{base}
 use Rattle.game.specs.Game.{Game}
 use Rattle.game.specs.Rank.{inRegion}
-use Rattle.solver.specs.Played.{ranksIn}
+use Rattle.keeping.specs.RankList.{ranksIn}
 use Rattle.solver.specs.Over.{rankZero}
 use Rattle.solver.specs.RankTable.{rankTable}
 use Rattle.solver.specs.RegionTable.{regionByte, regionTable}

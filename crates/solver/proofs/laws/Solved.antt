@@ -29,7 +29,8 @@ use Rattle.game.specs.Keeps.{keeps, answered, safe}
 use Rattle.game.specs.Rank.{notRanked, defeated, round, ranksAfter, rank, inRegion}
 use Rattle.game.specs.Reply.{reply}
 use Rattle.game.specs.Verdict.{realizable}
-use Rattle.solver.specs.Played.{played, ranksIn}
+use Rattle.keeping.specs.RankList.{ranksIn}
+use Rattle.solver.specs.Played.{played}
 use Rattle.step.specs.Step.{step, errorOf, nextOf}
 use Rattle.step.specs.Value.{literalValue, put, withInputs, withLatches, withGates, valuation}
 use Rattle.step.proofs.laws.Step.{next-below, largest-not-read}

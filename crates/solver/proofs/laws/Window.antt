@@ -23,16 +23,9 @@ use Rattle.step.specs.Step.{step, errorOf, nextOf}
 use Rattle.step.specs.declared.Stepped.{Stepped}
 use Rattle.circuit.specs.Circuit.{Circuit}
 use Rattle.solver.specs.AllKept.{KeptAt}
-use Rattle.solver.specs.Window.{window, nowhere, leads, leadsIn, slotKeeps}
-
--- a slot that holds a state keeps as that state does, another one doesn't
-pub state-keeps : (set : ℕ → Bool) (t : ℕ) → t < 2 ^ base .latches → slotKeeps set t ≡ set t
-unfolding slotKeeps
-state-keeps set t h = ap (λ (b : Bool). b && set t) (lt-ltb t (2 ^ base .latches) h)
-
-pub none-keeps : (set : ℕ → Bool) (t : ℕ) → 2 ^ base .latches ≤ t → slotKeeps set t ≡ false
-unfolding slotKeeps
-none-keeps set t h = ap (λ (b : Bool). b && set t) (le-ltb t (2 ^ base .latches) h)
+use Rattle.keeping.specs.SlotKeeps.{slotKeeps}
+use Rattle.keeping.proofs.laws.SlotKeeps.{state-keeps, none-keeps}
+use Rattle.solver.specs.Window.{window, nowhere, leads, leadsIn}
 
 -- a slot keeps exactly if its control does
 leads-keeps : (g : Game) (set : ℕ → Bool) (s r c : ℕ) → (g .step s r c) .next < 2 ^ base .latches → slotKeeps set (leads g s r c) ≡ (ltb c (g .controls) && keeps g set s r c)

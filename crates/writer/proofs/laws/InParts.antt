@@ -16,7 +16,7 @@ use Rattle.game.specs.Attack.{attack}
 use Rattle.game.specs.CircuitGame.{circuitGame}
 use Rattle.game.specs.Rank.{rank, inRegion}
 use Rattle.game.specs.Reply.{reply}
-use Rattle.solver.specs.Played.{ranksIn}
+use Rattle.keeping.specs.RankList.{ranksIn}
 use Rattle.records.specs.AttackTable.{attackLength}
 use Rattle.records.specs.Record.{circuitKind, regionKind, replyKind, attackKind}
 use Rattle.records.specs.RegionBits.{regionLength}

@@ -23,7 +23,7 @@ use Rattle.game.specs.Attack.{attack}
 use Rattle.game.specs.CircuitGame.{circuitGame}
 use Rattle.game.specs.Rank.{rank, inRegion}
 use Rattle.game.specs.Reply.{reply}
-use Rattle.solver.specs.Played.{ranksIn}
+use Rattle.keeping.specs.RankList.{ranksIn}
 use Rattle.records.specs.AttackTable.{attackBytes}
 use Rattle.records.specs.RegionBits.{regionBytes, regionLength}
 use Rattle.records.specs.ReplyBytes.{replyBytes, replyLength}

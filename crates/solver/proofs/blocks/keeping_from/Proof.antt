@@ -8,7 +8,8 @@ use Rattle.circuit.specs.Stored.{lent}
 use Rattle.game.specs.Keeps.{keeps}
 use Rattle.game.specs.Rank.{notRanked}
 use Rattle.solver.specs.Ready.{Ready}
-use Rattle.solver.specs.Played.{played, ranksIn}
+use Rattle.keeping.specs.RankList.{ranksIn}
+use Rattle.solver.specs.Played.{played}
 use Rattle.solver.proofs.laws.Blocks.{lane-within, lane-found, lane-block, lane-later, lane-forward}
 use borrow.Author.Needs.{needs}
 use Rattle.solver.proofs.blocks.keeping_from.Statement.{statement}

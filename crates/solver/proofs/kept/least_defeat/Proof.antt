@@ -6,7 +6,8 @@ use Rattle.below.proofs.laws.Passed.{Passed, passed-start, passed-next, passed-
 use Rattle.circuit.specs.Limits.{base}
 use Rattle.circuit.specs.Stored.{lent}
 use Rattle.game.specs.Rank.{defeats}
-use Rattle.solver.specs.Played.{played, ranksIn}
+use Rattle.keeping.specs.RankList.{ranksIn}
+use Rattle.solver.specs.Played.{played}
 use Rattle.solver.specs.AllKept.{AllKept}
 use Rattle.solver.specs.Ready.{Ready}
 use borrow.Author.Needs.{needs}

@@ -1,7 +1,7 @@
 -- `solver::kept::least_kept` meets its contract: the first slot that keeps is the least control that does; where none does, it is behind.
 use native.Mathlib.Omega.{arith}
 use Rattle.circuit.specs.Stored.{lent}
-use Rattle.solver.specs.Played.{ranksIn}
+use Rattle.keeping.specs.RankList.{ranksIn}
 use Rattle.solver.specs.Window.{slotsAt}
 use Rattle.solver.proofs.laws.Kept.{kept-windows, kept-here, kept-on}
 use borrow.Author.Needs.{needs}

@@ -6,7 +6,8 @@ use mathlib.Core.Path.{refl, sym, _∙_, subst}
 use lib.ListN.{set}
 use borrow.Author.Tests.{le-leb, lt-leb}
 use Rattle.circuit.specs.Stored.{lent}
-use Rattle.solver.specs.Played.{played, ranksIn}
+use Rattle.keeping.specs.RankList.{ranksIn}
+use Rattle.solver.specs.Played.{played}
 use Rattle.solver.specs.AllKept.{AllKept}
 use Rattle.solver.specs.Window.{window, slotsAt}
 use Rattle.solver.proofs.laws.Kept.{look-start, look-still, look-defeats, look-kept}

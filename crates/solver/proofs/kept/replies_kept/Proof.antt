@@ -11,7 +11,8 @@ use Rattle.below.proofs.laws.Filled.{Filled, filled-start, filled-next, filled-
 use Rattle.below.proofs.laws.Table.{length-table}
 use Rattle.circuit.specs.Limits.{base}
 use Rattle.circuit.specs.Stored.{lent}
-use Rattle.solver.specs.Played.{played, ranksIn}
+use Rattle.keeping.specs.RankList.{ranksIn}
+use Rattle.solver.specs.Played.{played}
 use Rattle.solver.specs.Ready.{Ready}
 use Rattle.solver.specs.Over.{replyOver}
 use Rattle.solver.proofs.laws.Replies.{Places, places, state-fits, reading-fits, kept-there}

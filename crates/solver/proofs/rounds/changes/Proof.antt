@@ -8,7 +8,7 @@ use borrow.Author.Tests.{eq-eqb, ne-eqb}
 use borrow.Author.Needs.{needs}
 use Rattle.below.proofs.laws.Least.{any-of, none-any}
 use Rattle.below.proofs.laws.Passed.{Passed, passed-start, passed-next}
-use Rattle.solver.specs.Played.{ranksIn}
+use Rattle.keeping.specs.RankList.{ranksIn}
 use Rattle.solver.proofs.rounds.changes.Statement.{statement}
 use Rattle.solver.proofs.rounds.changes.Tie as tie
 

@@ -1,6 +1,7 @@
 -- `solver::rounds::ranked` meets its contract: a rank once given stays, and its attack; another is given exactly if some reading defeats, the least one.
 use Rattle.circuit.specs.Stored.{lent}
-use Rattle.solver.specs.Played.{played, ranksIn}
+use Rattle.keeping.specs.RankList.{ranksIn}
+use Rattle.solver.specs.Played.{played}
 use Rattle.solver.proofs.laws.RankTable.{rank-kept, rank-given, rank-none}
 use Rattle.solver.proofs.laws.Attacks.{attack-kept, attack-new, attack-none}
 use mathlib.Core.Path.{sym, _∙_}

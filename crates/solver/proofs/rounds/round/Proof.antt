@@ -8,7 +8,8 @@ use Rattle.below.proofs.laws.Filled.{Filled, filled-start, filled-next, filled-
 use Rattle.circuit.specs.Limits.{base}
 use Rattle.circuit.specs.Stored.{lent}
 use Rattle.game.specs.Rank.{round as roundOf}
-use Rattle.solver.specs.Played.{played, ranksIn}
+use Rattle.keeping.specs.RankList.{ranksIn}
+use Rattle.solver.specs.Played.{played}
 use Rattle.solver.specs.AllKept.{AllKept}
 use Rattle.solver.specs.AttacksAfter.{attackAfter, attacksAfter}
 use Rattle.solver.specs.Ready.{Ready}

@@ -10,7 +10,8 @@ use Rattle.circuit.specs.Limits.{base}
 use Rattle.circuit.specs.Stored.{lent}
 use Rattle.solver.specs.AllKept.{AllKept}
 use Rattle.solver.specs.Fair.{Fair}
-use Rattle.solver.specs.Played.{played, ranksIn}
+use Rattle.keeping.specs.RankList.{ranksIn}
+use Rattle.solver.specs.Played.{played}
 use Rattle.solver.specs.Ready.{Ready}
 use Rattle.solver.proofs.laws.Attacks.{AttacksAre, attacks-start, attacks-next, attacks-same, attacks-end}
 use Rattle.solver.proofs.laws.Kept.{kept-next, kept-most}

@@ -7,8 +7,9 @@ use mathlib.Core.Path.{sym, _∙_}
 use lib.ListN.{getD}
 use Rattle.below.proofs.laws.Passed.{Passed, passed-start, passed-next, passed-found, passed-end}
 use Rattle.game.specs.Rank.{notRanked}
-use Rattle.solver.specs.Played.{ranksIn}
-use Rattle.solver.specs.Window.{window, slotKeeps}
+use Rattle.keeping.specs.RankList.{ranksIn}
+use Rattle.keeping.specs.SlotKeeps.{slotKeeps}
+use Rattle.solver.specs.Window.{window}
 use borrow.Author.Needs.{needs}
 use Rattle.solver.proofs.window.keeping_slot.Statement.{statement}
 use Rattle.solver.proofs.window.keeping_slot.Tie as tie

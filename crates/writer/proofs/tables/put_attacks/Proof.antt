@@ -2,7 +2,7 @@
 use Prim.Native.Nat.{_-_}
 use native.Mathlib.Omega.{arith}
 use lib.ListN.{getD}
-use Rattle.solver.specs.Played.{ranksIn}
+use Rattle.keeping.specs.RankList.{ranksIn}
 use Rattle.writer.specs.Rows.{attackRow}
 use Rattle.writer.proofs.laws.Turns.{Turns, turns-start, turns-end, rows-more}
 use borrow.Author.Needs.{needs}

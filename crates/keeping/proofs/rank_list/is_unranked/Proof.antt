@@ -1,11 +1,11 @@
--- `solver::rank_list::is_unranked` meets its contract: rank 0, or one above the bound.
+-- `keeping::rank_list::is_unranked` meets its contract: rank 0, or one above the bound.
 use native.Mathlib.Omega.{arith}
 use mathlib.Core.Path.{sym}
 use borrow.Author.Needs.{needs}
 use Rattle.game.proofs.laws.Rank.{unranked-zero, above-unranked}
-use Rattle.solver.specs.Played.{ranksIn}
-use Rattle.solver.proofs.rank_list.is_unranked.Statement.{statement}
-use Rattle.solver.proofs.rank_list.is_unranked.Tie as tie
+use Rattle.keeping.specs.RankList.{ranksIn}
+use Rattle.keeping.proofs.rank_list.is_unranked.Statement.{statement}
+use Rattle.keeping.proofs.rank_list.is_unranked.Tie as tie
 
 rank-at-requires : tie.Need-rank-at-requires
 rank-at-requires c κs = search needs

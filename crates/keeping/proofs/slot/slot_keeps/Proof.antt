@@ -1,12 +1,11 @@
--- `solver::window::slot_keeps` meets its contract: a slot keeps that holds a state of the set.
-use native.Mathlib.Omega.{arith}
+-- `keeping::slot::slot_keeps` meets its contract: a slot keeps that holds a state of the set.
 use mathlib.Core.Path.{sym, _∙_}
 use Rattle.game.specs.Rank.{notRanked}
-use Rattle.solver.specs.Played.{ranksIn}
-use Rattle.solver.proofs.laws.Window.{state-keeps, none-keeps}
+use Rattle.keeping.specs.RankList.{ranksIn}
+use Rattle.keeping.proofs.laws.SlotKeeps.{state-keeps, none-keeps}
 use borrow.Author.Needs.{needs}
-use Rattle.solver.proofs.window.slot_keeps.Statement.{statement}
-use Rattle.solver.proofs.window.slot_keeps.Tie as tie
+use Rattle.keeping.proofs.slot.slot_keeps.Statement.{statement}
+use Rattle.keeping.proofs.slot.slot_keeps.Tie as tie
 
 is-unranked-requires : tie.Need-is-unranked-requires
 is-unranked-requires c κs = search needs

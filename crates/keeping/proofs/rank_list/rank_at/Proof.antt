@@ -1,10 +1,10 @@
--- `solver::rank_list::rank_at` meets its contract: a rank that isn't there counts as 0.
+-- `keeping::rank_list::rank_at` meets its contract: a rank that isn't there counts as 0.
 use mathlib.Core.Path.{refl, sym}
 use lib.ListN.{List·getD-eq-default}
 use borrow.Author.Needs.{needs}
-use Rattle.solver.specs.Played.{ranksIn}
-use Rattle.solver.proofs.rank_list.rank_at.Statement.{statement}
-use Rattle.solver.proofs.rank_list.rank_at.Tie as tie
+use Rattle.keeping.specs.RankList.{ranksIn}
+use Rattle.keeping.proofs.rank_list.rank_at.Statement.{statement}
+use Rattle.keeping.proofs.rank_list.rank_at.Tie as tie
 
 mul-result : tie.Need-mul-result
 mul-result c = search needs

@@ -1,11 +1,11 @@
--- `solver::blocks::keeps_in` meets its contract: an error keeps nowhere; without one the next state must be in the set.
+-- `keeping::lane::keeps_in` meets its contract: an error keeps nowhere; without one the next state must be in the set.
 use mathlib.Core.Path.{sym, ap, _∙_}
 use Rattle.game.specs.Rank.{notRanked}
-use Rattle.solver.specs.Played.{ranksIn}
+use Rattle.keeping.specs.RankList.{ranksIn}
 use Rattle.game.proofs.laws.InLane.{error-fails, next-decides}
 use borrow.Author.Needs.{needs}
-use Rattle.solver.proofs.blocks.keeps_in.Statement.{statement}
-use Rattle.solver.proofs.blocks.keeps_in.Tie as tie
+use Rattle.keeping.proofs.lane.keeps_in.Statement.{statement}
+use Rattle.keeping.proofs.lane.keeps_in.Tie as tie
 
 is-lane-requires : tie.Need-is-lane-requires
 is-lane-requires c κs = search needs

@@ -1,7 +1,7 @@
 // A list of ranks (01, "The game"): a state that isn't in it has rank 0.
 ghost use mathlib.Core.Path.{_≡_};
 ghost use Rattle.game.specs.Rank.{notRanked};
-ghost use Rattle.solver.specs.Played.{ranksIn};
+ghost use Rattle.keeping.specs.RankList.{ranksIn};
 
 pub fn rank_at(ranks: &[u16], state: usize) -> u16
     ensures { λ r. ⌜ r ≡ ranksIn (now (ranks .entry)) state ⌝ }
@@ -10,7 +10,7 @@ pub fn rank_at(ranks: &[u16], state: usize) -> u16
 }
 
 // Whether a state isn't of rank 1 to a bound.
-pub(crate) fn is_unranked(ranks: &[u16], bound: u16, state: usize) -> bool
+pub fn is_unranked(ranks: &[u16], bound: u16, state: usize) -> bool
     ensures { λ r. ⌜ r ≡ notRanked (ranksIn (now (ranks .entry))) bound state ⌝ }
 {
     let x = rank_at(ranks, state);

@@ -1,0 +1,2 @@
+pub mod SlotKeeps
+pub mod LaneSearch

@@ -1,0 +1,2 @@
+pub mod RankList
+pub mod SlotKeeps
