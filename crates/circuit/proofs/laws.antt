@@ -7,3 +7,4 @@ pub mod Outcome
 pub mod Inputs
 pub mod Solvable
 pub mod Meant
+pub mod Numbers

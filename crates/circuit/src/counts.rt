@@ -1,6 +1,7 @@
-// How many inputs of lent lists are controllable, and how many aren't (01, the table of limits: C and U).
+// How many inputs of lent lists are controllable, and how many aren't (01, the table of limits: C and U); how many numbers so many bits make.
 use crate::Circuit;
 use bits::bytes::byte_at;
+ghost use Prim.Native.Nat.{_^_, min};
 ghost use mathlib.Core.Bool.{not, _||_};
 ghost use mathlib.Core.Path.{_≡_};
 ghost use lib.Dec.{ltb};
@@ -36,4 +37,11 @@ pub fn too_many(uncontrollable: usize, controllable: usize) -> bool
         return true;
     }
     Circuit::CONTROLLABLE < controllable
+}
+
+// How many numbers n bits make, of as many bits as a state may have.
+pub fn numbers(n: usize) -> usize
+    ensures { λ r. ⌜ r ≡ 2 ^ min n (base .latches) ⌝ }
+{
+    1 << below::fewer(n, Circuit::LATCHES)
 }

@@ -1,6 +1,5 @@
 pub mod Played
 pub mod RankTable
-pub mod RegionByte
 pub mod Blocks
 pub mod Window
 pub mod Slots

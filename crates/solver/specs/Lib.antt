@@ -5,7 +5,6 @@ pub mod Over
 pub mod PlacesOf
 pub mod Window
 pub mod AllKept
-pub mod RegionTable
 pub mod Solution
 pub mod AttacksAfter
 pub mod Counts

@@ -3,11 +3,11 @@ mod blocks;
 pub mod counts;
 mod kept;
 mod ready;
-pub mod region;
 mod rounds;
 mod window;
 
 use circuit::Circuit;
+use circuit::counts::numbers;
 use kept::no_replies;
 use ready::operands;
 use ready::owns;
@@ -20,10 +20,9 @@ ghost use lib.ListN.{length, take};
 ghost use Rattle.below.specs.Table.{table};
 ghost use Rattle.circuit.specs.Limits.{base};
 ghost use Rattle.circuit.specs.Stored.{lent, meant, solvable};
-ghost use Rattle.game.specs.CircuitGame.{circuitGame, isRealizable};
+ghost use Rattle.game.specs.CircuitGame.{circuitGame};
 ghost use Rattle.lanes.specs.Prepared.{Prepared};
 ghost use Rattle.solver.specs.Over.{found as foundOf};
-ghost use Rattle.solver.specs.RankTable.{rankTable};
 ghost use Rattle.solver.specs.Solution.{solutionOf};
 
 // What the solver answers: ranks and attacks of the states, and replies, at index s × 2^U + reading; 0 behind the last.
@@ -50,22 +49,6 @@ pub fn solve(c: Circuit) -> Solution
         &c.left,
         &c.right,
     )
-}
-
-// The ranks of a circuit's states; 0 behind the last state.
-pub fn ranks(c: Circuit) -> [u16; Circuit::STATES]
-    ensures { λ r. ⌜ r ≡ rankTable (circuitGame (solvable (meant c))) ⌝ }
-{
-    let solved = solve(c);
-    solved.ranks
-}
-
-// The verdict.
-pub fn realizable(c: Circuit) -> bool
-    ensures { λ r. ⌜ r ≡ isRealizable (solvable (meant c)) ⌝ }
-{
-    let ranked = ranks(c);
-    ranked[0] == 0
 }
 
 // Ranks, replies and attacks of a circuit over lent arrays, its gates prepared. A circuit with too many inputs counts as the empty one.
@@ -161,12 +144,4 @@ fn solve_counted<'a>(
         &lefts[..g],
         &rights[..g],
     )
-}
-
-// How many numbers n bits make.
-fn numbers(n: usize) -> usize
-    requires { ⌜ n ≤ base .latches ⌝ }
-    ensures { λ r. ⌜ r ≡ 2 ^ n ⌝ }
-{
-    1 << n
 }

@@ -2,6 +2,7 @@
 // answers the place behind them.
 use bits::bytes::byte_at;
 use circuit::Circuit;
+use circuit::counts::numbers;
 
 // Above the longest listing: per state its number, in or out, and a reply of at most three digits for each reading, with what parts them.
 const PAGE: usize = Circuit::REPLIES * 4 + Circuit::STATES * 8 + 64;
@@ -47,11 +48,6 @@ fn print_solved<'a>(
         let end = put_ranks(page, first, states, ranks, attacks);
         desk::print_front(page, end);
     }
-}
-
-// How many numbers n bits make, of as many bits as a state may have.
-fn numbers(n: usize) -> usize {
-    1 << below::fewer(n, Circuit::LATCHES)
 }
 
 // The verdict, L, U and C, at the front.

@@ -4,11 +4,9 @@ mod tables;
 
 use circuit::Circuit;
 use circuit::Read;
+use circuit::counts::numbers;
 use kinds::certify_attacks;
 use kinds::certify_replies;
-ghost use Prim.Native.Nat.{_^_, _≤_};
-ghost use mathlib.Core.Path.{_≡_};
-ghost use Rattle.circuit.specs.Limits.{base};
 ghost use Rattle.circuit.specs.Outcome.{taken};
 ghost use Rattle.circuit.specs.Stored.{meant, solvable};
 ghost use Rattle.file.specs.CircuitIn.{circuitIn};
@@ -51,12 +49,4 @@ pub fn certify_circuit(c: Circuit, file: &[u8], out: &mut [u8]) -> Certified
         let attacks = solved.attacks;
         certify_attacks(states, &ranks, &attacks, file, out)
     }
-}
-
-// How many numbers n bits make.
-fn numbers(n: usize) -> usize
-    requires { ⌜ n ≤ base .latches ⌝ }
-    ensures { λ r. ⌜ r ≡ 2 ^ n ⌝ }
-{
-    1 << n
 }

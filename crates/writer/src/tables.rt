@@ -13,7 +13,7 @@ ghost use Rattle.bits.specs.Wrote.{Wrote};
 ghost use Rattle.circuit.specs.Limits.{base};
 ghost use Rattle.keeping.specs.RankList.{ranksIn};
 ghost use Rattle.solver.specs.Over.{rankZero};
-ghost use Rattle.solver.specs.RegionTable.{regionByte};
+ghost use Rattle.region.specs.RegionTable.{regionByte};
 ghost use Rattle.writer.specs.Rows.{attackRow};
 
 // The length and the kind, little-endian.
@@ -38,7 +38,7 @@ pub(crate) fn put_region(out: &mut [u8], at: usize, ranks: &[u16], states: usize
     requires { ⌜ states ≤ 2 ^ base .latches ⌝ }
     ensures { λ r. ⌜ Wrote (table (regionByte (rankZero (now (ranks .entry))) states) ((states + 7) / 8)) at (now (out .entry)) (now (out .exit)) r ⌝ }
 {
-    let region = solver::region::region_of(ranks, states);
+    let region = region::region_of(ranks, states);
     let n = (states + 7) / 8;
     at + put_bytes(out, at, &region[..n])
 }

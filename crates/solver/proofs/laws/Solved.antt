@@ -1,35 +1,30 @@
 -- The games that the solver plays: over lent lists a fair one, that of a circuit that isn't too large, and that of the empty circuit.
 -- Assumes nothing.
-use Prim.Native.Nat.{ℕ, zero, suc, _*_, _/_, _%_, _^_, min, _<_, _≤_}
+use Prim.Native.Nat.{ℕ, _*_, _/_, _%_, _^_, min, _<_, _≤_}
 use native.Mathlib.Omega.{arith}
 use native.Mathlib.Decide.{decLt}
-use mathlib.Core.Bool.{Bool, true, false, cond, not, _||_, true≢false}
+use mathlib.Core.Bool.{Bool, true, false, cond, _||_, true≢false}
 use mathlib.Core.List.{List}
 use mathlib.Core.Path.{_≡_, refl, sym, ap, _∙_}
-use lib.Dec.{ltb, eqb}
-use lib.ListN.{getD}
-use lib.Pow.{pow-mono, pow-pos}
-use borrow.Author.Tests.{lt-ltb, le-ltb, eq-eqb, ne-eqb}
+use lib.Dec.{ltb}
+use lib.Pow.{pow-mono}
+use borrow.Author.Tests.{lt-ltb, le-ltb}
 use Rattle.below.specs.Least.{least, any, every}
 use Rattle.below.specs.Table.{table}
-use Rattle.below.proofs.laws.Least.{every-at, every-of}
 use Rattle.below.proofs.laws.Table.{table-same}
 use Rattle.bits.specs.Bit.{odd, oneIf}
 use Rattle.bits.specs.Digits.{sum}
 use Rattle.circuit.specs.Circuit.{Circuit, inputsThat, latchCount, uncontrollableCount, controllableCount, tooMany}
 use Rattle.circuit.specs.Limits.{base}
 use Rattle.circuit.specs.Literal.{variable, inverted, constant}
-use Rattle.circuit.specs.Reset.{isReset}
 use Rattle.circuit.specs.Stored.{lent, solvable, emptyCircuit}
 use Rattle.circuit.proofs.laws.Counts.{lent-latches}
 use Rattle.game.specs.Attack.{attack}
-use Rattle.game.specs.CircuitGame.{circuitGame, isRealizable}
+use Rattle.game.specs.CircuitGame.{circuitGame}
 use Rattle.game.specs.Game.{Proper}
 use Rattle.game.specs.Keeps.{keeps, answered, safe}
 use Rattle.game.specs.Rank.{notRanked, defeated, round, ranksAfter, rank, inRegion}
 use Rattle.game.specs.Reply.{reply}
-use Rattle.game.specs.Verdict.{realizable}
-use Rattle.keeping.specs.RankList.{ranksIn}
 use Rattle.solver.specs.Played.{played}
 use Rattle.step.specs.Step.{step, errorOf, nextOf}
 use Rattle.step.specs.Value.{literalValue, put, withInputs, withLatches, withGates, valuation}
@@ -38,7 +33,6 @@ use Rattle.solver.specs.RankTable.{rankTable}
 use Rattle.solver.specs.Solution.{replyTable, attackTable, solutionOf}
 use Rattle.solver.specs.declared.Solution.{Solution}
 use Rattle.solver.specs.Fair.{Fair}
-use Rattle.solver.proofs.laws.RankTable.{rank-in-table}
 
 empty-states : (circuitGame emptyCircuit) .states ≡ 1
 unfolding circuitGame latchCount emptyCircuit
@@ -120,26 +114,6 @@ module _ (largest other : ℕ) (input controllable latch next : List ℕ) (outpu
   unfolding circuitGame latchCount uncontrollableCount controllableCount lent
   game-any-largest = λ x. record { states = 2 ^ latchCount (lent largest input controllable latch next output gate left right); readings = 2 ^ uncontrollableCount (lent largest input controllable latch next output gate left right); controls = 2 ^ controllableCount (lent largest input controllable latch next output gate left right); step = λ s r k. largest-not-read input controllable latch next output gate left right largest other s r k x }
 
-some-state : (c : Circuit) → 0 < (circuitGame c) .states
-unfolding circuitGame
-some-state c = pow-pos (latchCount c)
-
-zero-or-not : (n : ℕ) → eqb n 0 ≡ not (ltb 0 n)
-zero-or-not n = elim (decLt 0 n) [ yes h ↦ ne-eqb n 0 (λ e. omega arith) ∙ sym (ap not (lt-ltb 0 n h)) | no h ↦ eq-eqb n 0 (omega arith) ∙ sym (ap not (le-ltb 0 n (omega arith))) ]
-
--- each number that is 0 is in a set exactly if 0 is
-zero-alone : (set : ℕ → Bool) (n : ℕ) → 0 < n → every (λ s. not (eqb s 0) || set s) n ≡ set 0
-zero-alone set n h = by (set 0) (every (λ s. not (eqb s 0) || set s) n) refl refl
-  where
-    at : set 0 ≡ true → (s : ℕ) → (not (eqb s 0) || set s) ≡ true
-    at e zero = e
-    at e (suc s) = rw (ne-eqb (suc s) 0 (λ q. omega arith))
-
-    by : (a b : Bool) → set 0 ≡ a → every (λ s. not (eqb s 0) || set s) n ≡ b → every (λ s. not (eqb s 0) || set s) n ≡ set 0
-    by true b e f = every-of (λ s. not (eqb s 0) || set s) n (λ s l. at e s) ∙ sym e
-    by false true e f = f ∙ sym (every-at (λ s. not (eqb s 0) || set s) n 0 f h)
-    by false false e f = f ∙ sym e
-
 played-proper : (readings controls : ℕ) (c : Circuit) → 0 < controls → Proper (played readings controls c)
 unfolding played step
 played-proper readings controls c h = record { leads = λ s r k. next-below c s r k; choice = omega arith }
@@ -203,8 +177,3 @@ module _ (c : Circuit) where
       by : (b : Bool) → zeroSolution ≡ solutionOf (circuitGame (cond (b || true) emptyCircuit c))
       by true = empty-solution
       by false = empty-solution
-
--- the only reset state is 0
-pub realizable-at-zero : (c : Circuit) → (circuitGame c) .states ≤ 2 ^ base .latches → eqb (getD (rankTable (circuitGame c)) 0 0) 0 ≡ isRealizable c
-unfolding isRealizable realizable isReset ranksIn inRegion
-realizable-at-zero c few = ap (λ (n : ℕ). eqb n 0) (rank-in-table (circuitGame c) few 0 (some-state c)) ∙ zero-or-not (rank (circuitGame c) 0) ∙ sym (zero-alone (inRegion (circuitGame c)) ((circuitGame c) .states) (some-state c))

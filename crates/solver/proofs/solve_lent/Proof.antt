@@ -7,6 +7,7 @@ use lib.Pow.{pow-pos}
 use borrow.Author.Needs.{needs}
 use Rattle.circuit.specs.Stored.{lent}
 use Rattle.circuit.proofs.laws.Counts.{lent-latches, lent-controllable, lent-others}
+use Rattle.circuit.proofs.laws.Numbers.{numbers-whole}
 use Rattle.solver.specs.Solution.{solutionOf}
 use Rattle.solver.proofs.laws.Solved.{played-solvable, many-readings-solution, many-controls-solution}
 use Rattle.solver.proofs.solve_lent.Statement.{statement}
@@ -52,14 +53,14 @@ numbers-requires-3 c κs = search needs
 rounds-requires : tie.Need-rounds-requires
 rounds-requires c κs = let s = c .before .before .before .before .before .before .before .before .before .before .before .before .before .before in
     let a = s .args in
-    (s .pre, (rw (c .before .before .numbers .ensures) (pow-pos _), (rw (c .before .numbers2 .ensures) (pow-pos _), c .numbers3 .ensures ∙ ap (λ (n : ℕ). 2 ^ n) (c .before .before .before .fewer .ensures ∙ sym (lent-latches 0 (a .input .now) (a .controllable .now) (a .latch .now) (a .next .now) (a .output) (a .gate .now) (a .left .now) (a .right .now))))))
+    (s .pre, (rw (c .before .before .numbers .ensures) (pow-pos _), (rw (c .before .numbers2 .ensures) (pow-pos _), c .numbers3 .ensures ∙ numbers-whole (c .before .before .before .fewer .result) (omega (arith, c .before .before .before .fewer .ensures)) ∙ ap (λ (n : ℕ). 2 ^ n) (c .before .before .before .fewer .ensures ∙ sym (lent-latches 0 (a .input .now) (a .controllable .now) (a .latch .now) (a .next .now) (a .output) (a .gate .now) (a .left .now) (a .right .now))))))
 
 returns-3 : tie.Need-returns-3
 returns-3 c = let a = c .before .before .before .before .before .before .before .before .before .before .before .before .before .before .before .args in
     let w = c .before .before .before .before .before .before .before .controllable-count in
     let u = lent-others 0 (a .input .now) (a .controllable .now) (a .latch .now) (a .next .now) (a .output) (a .gate .now) (a .left .now) (a .right .now) (w .result) (w .ensures) in
     let same = lent-controllable 0 (a .input .now) (a .controllable .now) (a .latch .now) (a .next .now) (a .output) (a .gate .now) (a .left .now) (a .right .now) in
-    c .rounds .ensures ∙ ap solutionOf (played-solvable (lent 0 (a .input .now) (a .controllable .now) (a .latch .now) (a .next .now) (a .output) (a .gate .now) (a .left .now) (a .right .now)) (length (a .input .now) - w .result) (w .result) (c .before .before .before .numbers .result) (c .before .before .numbers2 .result) (u .1) (w .ensures ∙ sym same) (omega (arith, c .before .before .before .before .before .before .if1 .left)) (omega (arith, c .before .before .before .before .before .if2 .left)) (c .before .before .before .numbers .ensures) (c .before .before .numbers2 .ensures))
+    c .rounds .ensures ∙ ap solutionOf (played-solvable (lent 0 (a .input .now) (a .controllable .now) (a .latch .now) (a .next .now) (a .output) (a .gate .now) (a .left .now) (a .right .now)) (length (a .input .now) - w .result) (w .result) (c .before .before .before .numbers .result) (c .before .before .numbers2 .result) (u .1) (w .ensures ∙ sym same) (omega (arith, c .before .before .before .before .before .before .if1 .left)) (omega (arith, c .before .before .before .before .before .if2 .left)) (c .before .before .before .numbers .ensures ∙ numbers-whole (length (a .input .now) - w .result) (omega (arith, c .before .before .before .before .before .before .if1 .left))) (c .before .before .numbers2 .ensures ∙ numbers-whole (w .result) (omega (arith, c .before .before .before .before .before .if2 .left))))
 
 pub solve-lent-spec : {M : Type 1} → statement M
 solve-lent-spec =

@@ -25,7 +25,7 @@ use Rattle.records.proofs.laws.Lengths.{length-region, length-replies, length-a
 use Rattle.solver.specs.Over.{rankZero}
 use Rattle.writer.specs.Answer.{CertifiedAs}
 use Rattle.writer.specs.Certificate.{replyCertificate, attackCertificate}
-use Rattle.solver.specs.RegionTable.{regionByte}
+use Rattle.region.specs.RegionTable.{regionByte}
 use Rattle.writer.specs.Rows.{attackRow}
 use Rattle.writer.specs.Solved.{Replied, Attacked}
 use Rattle.writer.specs.declared.Certified.the-variants.{Realizable, Unrealizable, Refused}

@@ -1,5 +1,5 @@
 -- A circuit's counts and its solution are what the writers of tables go by; and the rank of state 0 is the verdict. Assumes nothing.
-use Prim.Native.Nat.{ℕ, _*_, _^_, _≤_}
+use Prim.Native.Nat.{ℕ, _*_, _^_, _≤_, min}
 use native.Mathlib.Omega.{arith}
 use mathlib.Core.Bool.{true, false}
 use mathlib.Core.List.{List}
@@ -10,19 +10,20 @@ use lib.Pow.{pow-mono}
 use borrow.Author.Tests.{eq-eqb, ne-eqb}
 use Rattle.circuit.specs.Circuit.{Circuit, latchCount, uncontrollableCount}
 use Rattle.circuit.specs.Limits.{base}
+use Rattle.circuit.proofs.laws.Numbers.{numbers-whole}
 use Rattle.game.specs.CircuitGame.{circuitGame, isRealizable}
+use Rattle.region.proofs.laws.Verdict.{realizable-at-zero}
 use Rattle.solver.specs.Counts.{countsOf}
 use Rattle.solver.specs.RankTable.{rankTable}
 use Rattle.solver.specs.Solution.{replyTable, attackTable, solutionOf}
 use Rattle.solver.specs.declared.Solution.{Solution}
 use Rattle.solver.specs.declared.counts.Counts.{Counts}
 use Rattle.solver.proofs.laws.Solution.{replies-long}
-use Rattle.solver.proofs.laws.Solved.{realizable-at-zero}
 use Rattle.writer.specs.Solved.{Solved, Replied, Attacked}
 
 -- as many numbers as n bits make are few
-pub few-numbers : (n m most : ℕ) → m ≡ 2 ^ n → n ≤ most → m ≤ 2 ^ most
-few-numbers n m most e h = omega (arith, e, pow-mono {i = n} {j = most} h)
+pub few-numbers : (n m most : ℕ) → m ≡ 2 ^ min n (base .latches) → n ≤ most → m ≤ 2 ^ most
+few-numbers n m most e h = omega (arith, e, pow-mono {i = min n (base .latches)} {j = most} (omega arith))
 
 module _ (c : Circuit) (s : Solution) (is : s ≡ solutionOf (circuitGame c)) where
   ranks-are : s .ranks ≡ rankTable (circuitGame c)
@@ -40,10 +41,10 @@ module _ (c : Circuit) (s : Solution) (is : s ≡ solutionOf (circuitGame c)) wh
   pub all-replies : length (s .replies) ≡ 2 ^ base .latches * 2 ^ base .uncontrollable
   all-replies = ap length replies-are ∙ replies-long (circuitGame c)
 
-  module _ (n : Counts) (counts : n ≡ countsOf c) (few : n .latches ≤ base .latches) (states : ℕ) (states-are : states ≡ 2 ^ n .latches) where
+  module _ (n : Counts) (counts : n ≡ countsOf c) (few : n .latches ≤ base .latches) (states : ℕ) (states-are : states ≡ 2 ^ min (n .latches) (base .latches)) where
     latches-are : states ≡ 2 ^ latchCount c
     unfolding countsOf
-    latches-are = states-are ∙ ap (λ (m : Counts). 2 ^ m .latches) counts
+    latches-are = states-are ∙ numbers-whole (n .latches) few ∙ ap (λ (m : Counts). 2 ^ m .latches) counts
 
     is-solved : Solved c states (s .ranks)
     is-solved = record { few = few-numbers (n .latches) states (base .latches) states-are few; statesAre = latches-are; ranksAre = ranks-are }
@@ -52,13 +53,13 @@ module _ (c : Circuit) (s : Solution) (is : s ≡ solutionOf (circuitGame c)) wh
     unfolding circuitGame
     at-zero = ap (λ (l : List ℕ). eqb (getD l 0 0) 0) ranks-are ∙ realizable-at-zero c (omega (arith, is-solved .few, latches-are))
 
-    pub zero-replied : (readings : ℕ) → readings ≡ 2 ^ n .uncontrollable → n .uncontrollable ≤ base .uncontrollable → getD (s .ranks) 0 0 ≡ 0 → Replied c states readings (s .ranks) (s .replies)
+    pub zero-replied : (readings : ℕ) → readings ≡ 2 ^ min (n .uncontrollable) (base .latches) → n .uncontrollable ≤ base .uncontrollable → getD (s .ranks) 0 0 ≡ 0 → Replied c states readings (s .ranks) (s .replies)
     unfolding countsOf
     zero-replied readings r narrow e =
         record {
           solved = is-solved;
           few = few-numbers (n .uncontrollable) readings (base .uncontrollable) r narrow;
-          readingsAre = r ∙ ap (λ (m : Counts). 2 ^ m .uncontrollable) counts;
+          readingsAre = r ∙ numbers-whole (n .uncontrollable) (omega (arith, narrow)) ∙ ap (λ (m : Counts). 2 ^ m .uncontrollable) counts;
           repliesAre = replies-are;
           verdict = sym at-zero ∙ eq-eqb (getD (s .ranks) 0 0) 0 e;
         }

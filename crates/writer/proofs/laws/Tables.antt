@@ -31,7 +31,7 @@ use Rattle.records.proofs.laws.Rows.{rows-in-turn}
 use Rattle.solver.specs.Over.{rankZero}
 use Rattle.solver.proofs.laws.RankTable.{rank-in-table}
 use Rattle.solver.proofs.laws.Solution.{replies-front, attack-in-table}
-use Rattle.solver.specs.RegionTable.{regionByte}
+use Rattle.region.specs.RegionTable.{regionByte}
 use Rattle.writer.specs.Rows.{attackRow}
 use Rattle.writer.specs.Solved.{Solved, Replied, Attacked}
 

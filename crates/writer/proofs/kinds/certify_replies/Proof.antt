@@ -8,7 +8,7 @@ use lib.Seq.{length-take-le}
 use Rattle.bits.proofs.laws.Wrote.{wrote-put}
 use Rattle.records.specs.Record.{circuitKind, regionKind, replyKind}
 use Rattle.solver.specs.Over.{rankZero}
-use Rattle.solver.specs.RegionTable.{regionByte}
+use Rattle.region.specs.RegionTable.{regionByte}
 use Rattle.writer.proofs.laws.Bounds.{few-replies, head-place, table-place}
 use Rattle.writer.proofs.laws.InParts.{no-reply-room, replies-in-parts}
 use borrow.Author.Needs.{needs}

@@ -10,8 +10,8 @@ use Rattle.bits.specs.Wrote.{Wrote}
 use Rattle.bits.proofs.laws.Wrote.{wrote-put}
 use Rattle.circuit.specs.Limits.{base}
 use Rattle.solver.specs.Over.{rankZero}
-use Rattle.solver.specs.RegionTable.{regionByte, regionTable}
-use Rattle.solver.proofs.laws.RegionByte.{region-front}
+use Rattle.region.specs.RegionTable.{regionByte, regionTable}
+use Rattle.region.proofs.laws.RegionByte.{region-front}
 use borrow.Author.Needs.{needs}
 use Rattle.writer.proofs.tables.put_region.Statement.{statement}
 use Rattle.writer.proofs.tables.put_region.Tie as tie

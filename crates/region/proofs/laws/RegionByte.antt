@@ -18,10 +18,10 @@ use Rattle.circuit.specs.Limits.{base}
 use Rattle.game.specs.Game.{Game}
 use Rattle.game.specs.Rank.{inRegion}
 use Rattle.keeping.specs.RankList.{ranksIn}
 use Rattle.solver.specs.Over.{rankZero}
 use Rattle.solver.specs.RankTable.{rankTable}
-use Rattle.solver.specs.RegionTable.{regionByte, regionTable}
+use Rattle.region.specs.RegionTable.{regionByte, regionTable}
 use Rattle.solver.proofs.laws.RankTable.{rank-in-table}
 
 module _ (ranks : List ℕ) (states s x : ℕ) (is : x ≡ ranksIn ranks s) where
   pub bit-inside : s < states → x ≡ 0 → 1 ≡ oneIf (ltb s states && rankZero ranks s)

@@ -1,9 +1,9 @@
--- `solver::region::no_states` meets its contract: the same number everywhere.
+-- `region::no_states` meets its contract: the same number everywhere.
 use Prim.Native.Nat.{_/_, _^_}
 use Rattle.below.proofs.laws.Filled.{replicate-table}
 use Rattle.circuit.specs.Limits.{base}
-use Rattle.solver.proofs.region.no_states.Statement.{statement}
-use Rattle.solver.proofs.region.no_states.Tie as tie
+use Rattle.region.proofs.no_states.Statement.{statement}
+use Rattle.region.proofs.no_states.Tie as tie
 
 returns : tie.Need-returns
 returns c = replicate-table (2 ^ base .latches / 8) 0

@@ -1,9 +1,9 @@
--- `solver::region::region_byte` adds eight bits, the highest first. Assumes nothing.
+-- `region::byte::region_byte` adds eight bits, the highest first. Assumes nothing.
 use Rattle.solver.specs.Over.{rankZero}
-use Rattle.solver.proofs.laws.RegionByte.{byte-of}
+use Rattle.region.proofs.laws.RegionByte.{byte-of}
 use borrow.Author.Needs.{needs}
-use Rattle.solver.proofs.region.region_byte.Statement.{statement}
-use Rattle.solver.proofs.region.region_byte.Tie as tie
+use Rattle.region.proofs.byte.region_byte.Statement.{statement}
+use Rattle.region.proofs.byte.region_byte.Tie as tie
 
 mul-s : tie.Need-mul-s
 mul-s c = search needs

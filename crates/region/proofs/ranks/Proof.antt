@@ -1,10 +1,10 @@
--- `solver::ranks` meets its contract: the ranks of the solution.
+-- `region::ranks` meets its contract: the ranks of the solution.
 use mathlib.Core.Path.{ap}
 use Rattle.solver.specs.Solution.{solutionOf}
 use Rattle.solver.specs.declared.Solution.{Solution}
 use borrow.Author.Needs.{needs}
-use Rattle.solver.proofs.ranks.Statement.{statement}
-use Rattle.solver.proofs.ranks.Tie as tie
+use Rattle.region.proofs.ranks.Statement.{statement}
+use Rattle.region.proofs.ranks.Tie as tie
 
 solve-requires : tie.Need-solve-requires
 solve-requires c κs = search needs

@@ -1,9 +1,9 @@
--- `solver::region::region_bit` answers 1 exactly if the state is there and of rank 0. Assumes nothing.
+-- `region::byte::region_bit` answers 1 exactly if the state is there and of rank 0. Assumes nothing.
 use native.Mathlib.Omega.{arith}
-use Rattle.solver.proofs.laws.RegionByte.{bit-inside, bit-outside, bit-past}
+use Rattle.region.proofs.laws.RegionByte.{bit-inside, bit-outside, bit-past}
 use borrow.Author.Needs.{needs}
-use Rattle.solver.proofs.region.region_bit.Statement.{statement}
-use Rattle.solver.proofs.region.region_bit.Tie as tie
+use Rattle.region.proofs.byte.region_bit.Statement.{statement}
+use Rattle.region.proofs.byte.region_bit.Tie as tie
 
 rank-at-requires : tie.Need-rank-at-requires
 rank-at-requires c κs = search needs

@@ -1,4 +1,4 @@
--- `solver::realizable` meets its contract: the reset state is 0, and its rank says whether it lies in the region.
+-- `region::realizable` meets its contract: the reset state is 0, and its rank says whether it lies in the region.
 use Prim.Native.Nat.{ℕ}
 use mathlib.Core.List.{List}
 use mathlib.Core.Path.{ap, _∙_}
@@ -6,9 +6,10 @@ use lib.Dec.{eqb}
 use lib.ListN.{getD, take}
 use borrow.Author.Needs.{needs}
 use Rattle.circuit.specs.Stored.{meant, solvable}
-use Rattle.solver.proofs.laws.Solved.{solvable-few, realizable-at-zero}
-use Rattle.solver.proofs.realizable.Statement.{statement}
-use Rattle.solver.proofs.realizable.Tie as tie
+use Rattle.region.proofs.laws.Verdict.{realizable-at-zero}
+use Rattle.solver.proofs.laws.Solved.{solvable-few}
+use Rattle.region.proofs.realizable.Statement.{statement}
+use Rattle.region.proofs.realizable.Tie as tie
 
 ranks-requires : tie.Need-ranks-requires
 ranks-requires c κs = search needs

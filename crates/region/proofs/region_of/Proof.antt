@@ -1,4 +1,4 @@
--- `solver::region::region_of` meets its contract: what is passed is as the bytes of the states say.
+-- `region::region_of` meets its contract: what is passed is as the bytes of the states say.
 use Prim.Native.Nat.{ℕ, _-_, _/_, _^_, _≤_}
 use native.Mathlib.Omega.{arith}
 use mathlib.Core.Path.{_≡_, ap, _∙_}
@@ -6,11 +6,11 @@ use lib.ListN.{length}
 use Rattle.below.proofs.laws.Filled.{Filled, filled-start, filled-next, filled-whole}
 use Rattle.below.proofs.laws.Table.{length-table}
 use Rattle.circuit.specs.Limits.{base}
 use Rattle.solver.specs.Over.{rankZero}
-use Rattle.solver.specs.RegionTable.{regionByte, regionTable}
+use Rattle.region.specs.RegionTable.{regionByte, regionTable}
 use borrow.Author.Needs.{needs}
-use Rattle.solver.proofs.region.region_of.Statement.{statement}
-use Rattle.solver.proofs.region.region_of.Tie as tie
+use Rattle.region.proofs.region_of.Statement.{statement}
+use Rattle.region.proofs.region_of.Tie as tie
 
 abbrev Inv-loop : tie.InvT-loop
 Inv-loop ranks states bytes₀ j₀ bytes j = Filled (regionByte (rankZero ranks) states) bytes₀ j bytes × (length bytes₀ ≡ 2 ^ base .latches / 8) × (j ≤ 2 ^ base .latches / 8)
