@@ -11,8 +11,10 @@ import sys
 sys.path.insert(0, str(pathlib.Path(__file__).resolve().parents[1] / ".ci"))
 from comparison.programs import ROOT, SECOND
 
-TIMES = 7
-ENOUGH = 2.0  # seconds; a call longer than this isn't repeated
+os.sched_setaffinity(0, {max(os.sched_getaffinity(0))})  # one processor for all, since another may be busier
+
+TIMES = 25
+ENOUGH = 20.0  # seconds; no more runs behind this many
 
 
 @functools.cache
@@ -41,12 +43,10 @@ def seconds(words):
 
 
 def best(*calls, times=TIMES):
-    """The best time of each call over several runs, taken in turn."""
+    """The best time of each call over several runs, taken in turn, as many as fit."""
     seen = []
-    while len(seen) < times:
+    while len(seen) < times and sum(map(sum, seen)) < ENOUGH:
         seen.append([seconds(words) for words in calls])
-        if max(seen[-1]) > ENOUGH:
-            break
     return [min(one) for one in zip(*seen)]
 
 
