@@ -3,7 +3,6 @@
 use Prim.Native.Nat.{ℕ, _*_, _/_, _%_, _^_}
 use mathlib.Core.Bool.{cond}
 use mathlib.Core.List.{List}
-use mathlib.Core.Path.{_≡_}
 use lib.Dec.{ltb}
 use Rattle.below.specs.Table.{table}
 use Rattle.circuit.specs.Limits.{base}

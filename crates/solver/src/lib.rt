@@ -8,18 +8,15 @@ mod window;
 
 use circuit::Circuit;
 use circuit::counts::numbers;
-use kept::no_replies;
 use ready::operands;
 use ready::owns;
-use rounds::no_attacks;
 use rounds::rounds;
-use rounds::zeros;
-ghost use Prim.Native.Nat.{_*_, _^_, _≤_};
+use rounds::small_rounds;
+ghost use Prim.Native.Nat.{_^_, _≤_};
 ghost use mathlib.Core.Path.{_≡_};
 ghost use lib.ListN.{length, take};
-ghost use Rattle.below.specs.Table.{table};
 ghost use Rattle.circuit.specs.Limits.{base};
-ghost use Rattle.circuit.specs.Stored.{lent, meant, solvable};
+ghost use Rattle.circuit.specs.Stored.{emptyCircuit, lent, meant, solvable};
 ghost use Rattle.game.specs.CircuitGame.{circuitGame};
 ghost use Rattle.lanes.specs.Prepared.{Prepared};
 ghost use Rattle.solver.specs.Over.{found as foundOf};
@@ -68,10 +65,10 @@ fn solve_lent<'a>(
     let c = circuit::counts::controllable_count(input, controllable);
     let u = input.len() - c;
     if Circuit::UNCONTROLLABLE < u {
-        return nothing();
+        return nothing(input, controllable, latch, next, gate, left, right);
     }
     if Circuit::CONTROLLABLE < c {
-        return nothing();
+        return nothing(input, controllable, latch, next, gate, left, right);
     }
     let l = below::fewer(latch.len(), Circuit::LATCHES);
     rounds(
@@ -89,18 +86,31 @@ fn solve_lent<'a>(
     )
 }
 
-// The solution of the empty circuit: every number is 0.
-fn nothing() -> Solution
-    ensures { λ r. ⌜ r ≡ record { ranks = table (λ s. 0) (2 ^ base .latches); replies = table (λ i. 0) (2 ^ base .latches * 2 ^ base .uncontrollable); attacks = table (λ s. 0) (2 ^ base .latches) } ⌝ }
+// The solution of the empty circuit, which is the front of any circuit's lists.
+fn nothing<'a>(
+    input: &'a [u16],
+    controllable: &'a [u8],
+    latch: &'a [u16],
+    next: &'a [u16],
+    gate: &'a [u16],
+    left: &'a [u16],
+    right: &'a [u16],
+) -> Solution
+    ensures { λ r. ⌜ r ≡ solutionOf (circuitGame emptyCircuit) ⌝ }
 {
-    let ranks = zeros();
-    let replies = no_replies();
-    let attacks = no_attacks();
-    Solution {
-        ranks,
-        replies,
-        attacks,
-    }
+    small_rounds(
+        &input[..0],
+        controllable,
+        &latch[..0],
+        next,
+        0,
+        &gate[..0],
+        &left[..0],
+        &right[..0],
+        1,
+        1,
+        1,
+    )
 }
 
 // What a search below n found, or 0.

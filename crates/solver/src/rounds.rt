@@ -101,7 +101,7 @@ pub(crate) fn rounds<'a>(
 }
 
 // The same for a small game.
-fn small_rounds<'a>(
+pub(crate) fn small_rounds<'a>(
     input: &'a [u16],
     controllable: &'a [u8],
     latch: &'a [u16],
@@ -348,13 +348,13 @@ fn solved<'a>(
     }
 }
 
-pub(crate) fn zeros() -> [u16; Circuit::STATES]
+fn zeros() -> [u16; Circuit::STATES]
     ensures { λ r. ⌜ r ≡ table (λ s. 0) (2 ^ base .latches) ⌝ }
 {
     [0u16; Circuit::STATES]
 }
 
-pub(crate) fn no_attacks() -> [u8; Circuit::STATES]
+fn no_attacks() -> [u8; Circuit::STATES]
     ensures { λ r. ⌜ r ≡ table (λ s. 0) (2 ^ base .latches) ⌝ }
 {
     [0u8; Circuit::STATES]

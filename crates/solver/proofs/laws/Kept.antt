@@ -3,7 +3,7 @@
 use Prim.Native.Nat.{ℕ, suc, _+_, _*_, _-_, _/_, _%_, _^_, min, _<_, _≤_}
 use native.Mathlib.Omega.{arith}
 use native.Mathlib.Decide.{decLt, ℕ-discrete}
-use native.Mathlib.Nat.{not-suc-le-zero, mul-le-mul, lt-of-lt-of-le}
+use native.Mathlib.Nat.{mul-le-mul, lt-of-lt-of-le}
 use mathlib.Core.Bool.{Bool, true, false, cond, not, _&&_}
 use mathlib.Core.List.{List}
 use mathlib.Core.Path.{_≡_, refl, sym, ap, _∙_, subst}
@@ -11,7 +11,7 @@ use lib.Arith.{digits-lt, digits-div, digits-mod}
 use lib.Dec.{ltb, leb}
 use lib.ListN.{length, getD, set, length-set, List·getD-eq-default}
 use lib.Seq.{getD-set-same, getD-set-other}
-use borrow.Author.Tests.{lt-ltb, le-ltb, lt-leb}
+use borrow.Author.Tests.{lt-ltb, lt-leb}
 use Rattle.below.specs.Least.{least}
 use Rattle.below.specs.LeastFrom.{leastFrom}
 use Rattle.below.specs.Table.{table}

@@ -3,12 +3,12 @@ use Prim.Native.Nat.{ℕ, _+_, _*_, _/_, _%_, _^_, min, _<_, _≤_}
 use native.Mathlib.Omega.{arith}
 use native.Mathlib.Decide.{decLt}
 use native.Mathlib.Nat.{div-lt-iff-lt-mul, mod-lt, mul-le-mul, div-add-mod'}
-use mathlib.Core.Bool.{Bool, cond}
+use mathlib.Core.Bool.{cond}
 use mathlib.Core.List.{List}
 use mathlib.Core.Path.{_≡_, refl, sym, ap, _∙_}
 use lib.Dec.{ltb}
 use lib.ListN.{length, getD}
-use borrow.Author.Tests.{lt-ltb, le-ltb}
+use borrow.Author.Tests.{le-ltb}
 use Rattle.below.specs.Table.{table}
 use Rattle.below.proofs.laws.Table.{table-same}
 use Rattle.circuit.specs.Circuit.{Circuit}

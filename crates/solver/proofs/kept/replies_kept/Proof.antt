@@ -1,7 +1,6 @@
 -- `solver::kept::replies_kept` meets its contract: what is passed is as the search at each place says.
-use Prim.Native.Nat.{ℕ, _*_, _-_, _/_, _%_, _^_, min, _≤_}
+use Prim.Native.Nat.{ℕ, _*_, _-_, _/_, _%_, _^_, _≤_}
 use native.Mathlib.Omega.{arith}
-use mathlib.Core.List.{List}
 use mathlib.Core.Bool.{cond}
 use mathlib.Core.Path.{_≡_, ap, _∙_}
 use lib.Dec.{ltb}

@@ -1,5 +1,4 @@
 -- `solver::kept::reply_kept` meets its contract: outside the set 0, inside it the least control that keeps.
-use native.Mathlib.Omega.{arith}
 use Rattle.circuit.specs.Stored.{lent}
 use Rattle.solver.specs.Played.{played}
 use Rattle.solver.proofs.laws.Over.{no-reply, reply-found}
