@@ -115,7 +115,7 @@ pub(crate) fn least_defeat<'a>(
     n
 }
 
-// The replies of the states of rank 0, where no rank is above k.
+// Puts the replies of the states of rank 0, where no rank is above k; the others stay 0.
 pub(crate) fn replies_kept<'a>(
     words: &mut [u64; WORDS],
     top: usize,
@@ -134,17 +134,18 @@ pub(crate) fn replies_kept<'a>(
     k: u16,
     looked: &'a [u8],
     slots: &'a [u16],
-) -> [u8; Circuit::REPLIES]
+    replies: &mut [u8],
+)
     requires { ⌜ Ready (now input) (now latch) (now gate) (now left) (now right) top (now words) ⌝ }
     requires { ⌜ 0 < readings ⌝ }
     requires { ⌜ states ≤ (played readings controls (lent 0 (now input) (now controllable) (now latch) (now next) output (now gate) (now left) (now right))) .states ⌝ }
     requires { ⌜ ((t : ℕ) → ranksIn (now ranks) t ≤ k) ⌝ }
     requires { ⌜ AllKept (played readings controls (lent 0 (now input) (now controllable) (now latch) (now next) output (now gate) (now left) (now right))) (ranksIn (now ranks)) k (now looked) (now slots) ⌝ }
-    ensures { λ r. ⌜ (r ≡ table (λ i. cond (ltb i (states * min readings (2 ^ base .uncontrollable))) (replyOver (played 0 controls (lent 0 (now (input .entry)) (now (controllable .entry)) (now (latch .entry)) (now (next .entry)) output (now (gate .entry)) (now (left .entry)) (now (right .entry)))) (now (ranks .entry)) (i / min readings (2 ^ base .uncontrollable)) (i % min readings (2 ^ base .uncontrollable))) 0) full) × Ready (now (input .entry)) (now (latch .entry)) (now (gate .entry)) (now (left .entry)) (now (right .entry)) top (now (words .exit)) ⌝ }
+    requires { ⌜ now replies ≡ table (λ i. 0) full ⌝ }
+    ensures { λ _. ⌜ (now (replies .exit) ≡ table (λ i. cond (ltb i (states * min readings (2 ^ base .uncontrollable))) (replyOver (played 0 controls (lent 0 (now (input .entry)) (now (controllable .entry)) (now (latch .entry)) (now (next .entry)) output (now (gate .entry)) (now (left .entry)) (now (right .entry)))) (now (ranks .entry)) (i / min readings (2 ^ base .uncontrollable)) (i % min readings (2 ^ base .uncontrollable))) 0) full) × Ready (now (input .entry)) (now (latch .entry)) (now (gate .entry)) (now (left .entry)) (now (right .entry)) top (now (words .exit)) ⌝ }
 {
     let width = below::fewer(readings, Circuit::READINGS);
     let n = states * width;
-    let mut replies = no_replies();
     let mut i = 0;
     while i < n {
         let reply = reply_kept(
@@ -170,7 +171,6 @@ pub(crate) fn replies_kept<'a>(
         replies[i] = reply;
         i += 1;
     }
-    replies
 }
 
 pub(crate) fn no_replies() -> [u8; Circuit::REPLIES]

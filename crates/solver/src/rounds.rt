@@ -5,6 +5,7 @@ use crate::kept::SMALL;
 use crate::kept::full_led;
 use crate::kept::full_looked;
 use crate::kept::least_defeat;
+use crate::kept::no_replies;
 use crate::kept::replies_kept;
 use crate::kept::small_led;
 use crate::kept::small_looked;
@@ -322,7 +323,8 @@ fn solved<'a>(
     requires { ⌜ AllKept (played readings controls (lent 0 (now input) (now controllable) (now latch) (now next) output (now gate) (now left) (now right))) (ranksIn ranks) k (now looked) (now slots) ⌝ }
     ensures { λ r. ⌜ r ≡ solutionOf (played readings controls (lent 0 (now (input .entry)) (now (controllable .entry)) (now (latch .entry)) (now (next .entry)) output (now (gate .entry)) (now (left .entry)) (now (right .entry)))) ⌝ }
 {
-    let replies = replies_kept(
+    let mut replies = no_replies();
+    replies_kept(
         words,
         top,
         input,
@@ -340,6 +342,7 @@ fn solved<'a>(
         k,
         looked,
         slots,
+        &mut replies,
     );
     Solution {
         ranks,
