@@ -42,10 +42,10 @@ def seconds(words):
     return after.ru_utime - before.ru_utime + after.ru_stime - before.ru_stime
 
 
-def best(*calls, times=TIMES):
+def best(*calls, times=TIMES, enough=ENOUGH):
     """The best time of each call over several runs, taken in turn, as many as fit."""
     seen = []
-    while len(seen) < times and sum(map(sum, seen)) < ENOUGH:
+    while len(seen) < times and sum(map(sum, seen)) < enough:
         seen.append([seconds(words) for words in calls])
     return [min(one) for one in zip(*seen)]
 
