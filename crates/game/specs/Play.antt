@@ -25,12 +25,14 @@ pub record Seen : Type 0 where
 abbrev pub Strategy : Type 0
 Strategy = List Seen → (state reading : ℕ) → ℕ
 
--- against this strategy, with the readings that the table of attacks gives, the error is 1 within so many steps from state s
+-- against this strategy, with the readings that the table of attacks gives, the error is 1 within so many steps from state s; each attack
+-- that is used is a reading
 abbrev pub ErrsWithin : Game → (ℕ → ℕ) → Strategy → List Seen → ℕ → (state : ℕ) → Type 0
 ErrsWithin g attacks σ past zero s = ⊥
 ErrsWithin g attacks σ past (suc n) s =
-    ((g .step s (attacks s) (σ past s (attacks s))) .error ≡ true)
+    (attacks s < g .readings)
+    × (((g .step s (attacks s) (σ past s (attacks s))) .error ≡ true)
     ⊎ ErrsWithin g attacks σ
     (record { state = s; reading = attacks s; control = σ past s (attacks s) } ∷ past)
     n
-    ((g .step s (attacks s) (σ past s (attacks s))) .next)
+    ((g .step s (attacks s) (σ past s (attacks s))) .next))

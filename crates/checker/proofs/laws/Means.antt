@@ -8,14 +8,14 @@ use mathlib.Core.Path.{_≡_, refl, sym, _∙_, subst}
 use borrow.Author.Tests.{eqb-true}
 use lib.Pow.{pow-pos}
 use Rattle.bits.specs.Digits.{AllBelow}
-use Rattle.circuit.specs.Circuit.{Circuit, latchCount, uncontrollableCount, controllableCount}
+use Rattle.circuit.specs.Circuit.{Circuit, latchCount, uncontrollableCount}
 use Rattle.circuit.specs.Outcome.{taken}
 use Rattle.circuit.specs.Reset.{isReset}
 use Rattle.file.specs.CircuitIn.{circuitIn}
 use Rattle.game.specs.CircuitGame.{circuitGame, isRealizable}
-use Rattle.game.specs.Play.{RepliesHold, Seen, Strategy, ErrsWithin}
+use Rattle.game.specs.Play.{RepliesHold, Strategy, ErrsWithin}
 use Rattle.game.proofs.laws.Attack.{unbroken-outside}
-use Rattle.game.proofs.laws.CircuitGame.{circuit-proper}
+use Rattle.game.proofs.laws.CircuitGame.{circuit-proper, circuit-acts}
 use Rattle.game.proofs.laws.Play.{replies-play, attacks-play}
 use Rattle.game.proofs.laws.Reply.{unbroken-closed}
 use Rattle.game.proofs.laws.Verdict.{reset-in-region, realizable-complete}
@@ -68,14 +68,14 @@ module _ (file certificate : List ℕ) (c : Circuit) (read : circuitIn file ≡ 
     fine-attacks : AttacksPass c table
     fine-attacks = passes-for file certificate (attacks circuit table) c pass read
 
-    -- against every strategy of controls the error is 1 no later than the step given by the stored rank of state 0
-    pub attacks-err : (σ : Strategy) → ((past : List Seen) (s r : ℕ) → σ past s r < 2 ^ controllableCount c) → ErrsWithin (circuitGame c) (storedAttack table (latchCount c)) σ [] (storedRank table (latchCount c) 0) 0
+    -- against every strategy of controls, also one that gives a number of more bits, the error is 1 no later than the step given by the stored rank of state 0
+    pub attacks-err : (σ : Strategy) → ErrsWithin (circuitGame c) (storedAttack table (latchCount c)) σ [] (storedRank table (latchCount c) 0) 0
     unfolding circuitGame
-    attacks-err σ legal =
+    attacks-err σ =
         let w = reset-ranked c table fine-attacks in
         let first : w .state ≡ 0 = zero-reset c (w .state) (w .reset) in
         let ranked : 0 < storedRank table (latchCount c) 0 = subst (λ (s : ℕ). 0 < storedRank table (latchCount c) s) first (w .ranked) in
-        attacks-play (circuitGame c) (circuit-proper c) (storedRank table (latchCount c)) (storedAttack table (latchCount c)) (no-attack-broken c table fine-attacks) σ legal (storedRank table (latchCount c) 0) [] 0 (pow-pos (latchCount c)) ranked (le-refl _)
+        attacks-play (circuitGame c) (circuit-proper c) (storedRank table (latchCount c)) (storedAttack table (latchCount c)) (no-attack-broken c table fine-attacks) (circuit-acts c) σ (storedRank table (latchCount c) 0) [] 0 (pow-pos (latchCount c)) ranked (le-refl _)
 
     pub attacks-unrealizable : isRealizable c ≡ false
     unfolding isRealizable

@@ -10,13 +10,13 @@ use borrow.Author.Tests.{eqb-true, not-false}
 use lib.Dec.{eqb}
 use lib.ListN.{length, take, drop}
 use Rattle.bits.specs.Digits.{AllBelow}
-use Rattle.circuit.specs.Circuit.{Circuit, latchCount, uncontrollableCount, controllableCount}
+use Rattle.circuit.specs.Circuit.{Circuit, latchCount, uncontrollableCount}
 use Rattle.circuit.specs.Outcome.{taken, _>>=_}
 use Rattle.circuit.proofs.laws.Outcome.{bind-taken}
 use Rattle.file.specs.CircuitIn.{circuitIn}
 use Rattle.game.specs.CircuitGame.{circuitGame, isRealizable}
 use Rattle.game.specs.Game.{Game}
-use Rattle.game.specs.Play.{RepliesHold, Seen, Strategy, ErrsWithin}
+use Rattle.game.specs.Play.{RepliesHold, Strategy, ErrsWithin}
 use Rattle.records.specs.AttackTable.{attackLength, storedRank, storedAttack}
 use Rattle.records.specs.CircuitRecord.{circuitContents, circuitRecord}
 use Rattle.records.specs.Passed.{replyIn}
@@ -208,10 +208,10 @@ module _ (file certificate : List ℕ) (c : Circuit) (read : circuitIn file ≡ 
     attacks-are s = ap₂ (λ (l : List ℕ) (n : ℕ). storedAttack l n s) (judgedAttacks .table-front) (judgedAttacks .latches) ∙ attacks-in-front (drop table certificate) (length (judgedAttacks .tableBytes)) L s wide
 
     -- against every strategy of controls the error is 1 no later than the step given by the rank that is read of state 0
-    pub attacks-err-as-read : (σ : Strategy) → ((past : List Seen) (s r : ℕ) → σ past s r < 2 ^ controllableCount c) → ErrsWithin (circuitGame c) (storedAttack (drop table certificate) L) σ [] (storedRank (drop table certificate) L 0) 0
-    attacks-err-as-read σ legal =
+    pub attacks-err-as-read : (σ : Strategy) → ErrsWithin (circuitGame c) (storedAttack (drop table certificate) L) σ [] (storedRank (drop table certificate) L 0) 0
+    attacks-err-as-read σ =
         let attacked : _≡_ {A = ℕ → ℕ} (storedAttack (judgedAttacks .tableBytes) (latchCount c)) (storedAttack (drop table certificate) L) = λ i s. attacks-are s i in
-        subst₂ (λ (f : ℕ → ℕ) (n : ℕ). ErrsWithin (circuitGame c) f σ [] n 0) attacked (ranks-are 0) (attacks-err file certificate c read (judgedAttacks .circuitBytes) (judgedAttacks .tableBytes) (judgedAttacks .checks) σ legal)
+        subst₂ (λ (f : ℕ → ℕ) (n : ℕ). ErrsWithin (circuitGame c) f σ [] n 0) attacked (ranks-are 0) (attacks-err file certificate c read (judgedAttacks .circuitBytes) (judgedAttacks .tableBytes) (judgedAttacks .checks) σ)
 
     pub attacks-unrealizable-as-read : isRealizable c ≡ false
     attacks-unrealizable-as-read = attacks-unrealizable file certificate c read (judgedAttacks .circuitBytes) (judgedAttacks .tableBytes) (judgedAttacks .checks)

@@ -30,7 +30,7 @@ use Rattle.text.proofs.laws.Outcome.{taken-is}
 use Rattle.game.specs.Alike.{Alike}
 use Rattle.game.specs.Attack.{attack}
 use Rattle.game.specs.CircuitGame.{circuitGame, isRealizable}
-use Rattle.game.specs.Play.{RepliesHold, Seen, Strategy, ErrsWithin}
+use Rattle.game.specs.Play.{RepliesHold, Strategy, ErrsWithin}
 use Rattle.game.specs.Rank.{AreRanks, rank, inRegion}
 use Rattle.game.specs.Region.{IsRegion}
 use Rattle.game.specs.Reply.{reply}
@@ -193,10 +193,11 @@ module _ (file certificate : List ℕ) (c : Circuit) (reads : circuitIn file ≡
     replies-realizable = replies-realizable-as-read file certificate c reads region table L U pass
 
   -- "Attack table: whichever controls are chosen, even after seeing the reading, the error is 1 no later than the step given by the rank of
-  -- the reset state.": by what `attack` and `rank` read there.
+  -- the reset state.": by what `attack` and `rank` read there. Each attack is a reading; a control may be any number, its bits above C aren't
+  -- read.
   module _ (table L U : ℕ) (pass : answerOf file certificate ≡ taken (ofAttacks table L U)) where
-    pub attacks-err : (σ : Strategy) → ((past : List Seen) (s r : ℕ) → σ past s r < 2 ^ controllableCount c) → ErrsWithin (circuitGame c) (storedAttack (drop table certificate) L) σ [] (storedRank (drop table certificate) L 0) 0
-    attacks-err σ legal = attacks-err-as-read file certificate c reads table L U pass σ legal
+    pub attacks-err : (σ : Strategy) → ErrsWithin (circuitGame c) (storedAttack (drop table certificate) L) σ [] (storedRank (drop table certificate) L 0) 0
+    attacks-err σ = attacks-err-as-read file certificate c reads table L U pass σ
 
     pub attacks-unrealizable : isRealizable c ≡ false
     attacks-unrealizable = attacks-unrealizable-as-read file certificate c reads table L U pass
