@@ -1,2 +1,1 @@
 pub mod RegionByte
-pub mod Verdict

@@ -4,6 +4,7 @@ pub mod Length
 pub mod Certified
 pub mod Bounds
 pub mod InParts
+pub mod Verdict
 pub mod Ranked
 pub mod Within
 pub mod RulesKept

@@ -1,13 +1,16 @@
 -- The three rules of the mission, sentence by sentence. A promise stands here as it stands at its function: `ReadAs`, `WrittenAs` and
 -- `CertifiedAs` say which answer and which buffer a call may leave, `answerOf` what a check answers. What holds for every such answer holds
 -- for the code. Each proof cites the law that carries it. Assumes nothing.
-use Prim.Native.Nat.{ℕ, _^_, _<_, _≤_}
+use Prim.Native.Nat.{ℕ, _*_, _^_, _<_, _≤_}
 use lib.Pow.{pow-mono}
-use mathlib.Core.Bool.{true, false}
+use mathlib.Core.Bool.{true, false, _&&_}
 use mathlib.Core.List.{List, []}
 use mathlib.Core.Logic.{_↔_}
 use mathlib.Core.Path.{_≡_, sym, _∙_}
+use lib.Dec.{ltb}
 use lib.ListN.{length, take, drop}
+use Rattle.bits.specs.Bit.{oneIf}
+use Rattle.bits.specs.ByteBit.{byteBit}
 use Rattle.bits.specs.Digits.{AllBelow}
 use Rattle.circuit.specs.Answer.{ReadAs, readOutcome, WrittenAs, writtenOutcome}
 use Rattle.circuit.specs.Circuit.{Circuit, controllableCount, tooMany}
@@ -46,7 +49,7 @@ use Rattle.solver.proofs.laws.RankTable.{rank-in-table}
 use Rattle.records.specs.AttackTable.{storedRank, storedAttack}
 use Rattle.records.specs.CircuitRecord.{circuitRecord}
 use Rattle.records.specs.Passed.{replyIn}
-use Rattle.records.specs.RegionBits.{holdsState}
+use Rattle.records.specs.RegionBits.{regionLength, holdsState}
 use Rattle.file.specs.CircuitIn.{circuitIn}
 use Rattle.file.specs.WriterRow.{WriterRow}
 use Rattle.file.proofs.laws.Exact.{reader-refused-exactly}
@@ -64,7 +67,7 @@ use Rattle.writer.specs.Certificate.{certificateOf}
 use Rattle.writer.specs.declared.Certified.{Certified}
 use Rattle.writer.proofs.laws.Decided.{certified-decided}
 use Rattle.writer.proofs.laws.Longest.{longest-certificate}
-use Rattle.writer.proofs.laws.OwnCertificate.{refused-certifies-nothing, certify-refused-exactly, room-certifies, own-region, own-reply, own-rank, own-attack}
+use Rattle.writer.proofs.laws.OwnCertificate.{refused-certifies-nothing, verdict-refused-exactly, certify-refused-exactly, room-certifies, own-bit, own-region, own-reply, own-rank, own-attack}
 use Rattle.writer.proofs.laws.Within.{read-within}
 
 -- RULE 1. Every input is met.
@@ -136,8 +139,9 @@ pub realizable-only-if : (c : Circuit) → isRealizable c ≡ true → Realizabl
 unfolding isRealizable
 realizable-only-if c e = realizable-sound (circuitGame c) (circuit-proper c) (isReset c) e
 
--- "The region reported is the largest such set." The states of rank 0 in the solver's table are that set, and so are those whose bit is read
--- in our own certificate; its replies, ranks and attacks are the game's.
+-- "The region reported is the largest such set." The states of rank 0 in the solver's table are that set. In our own certificate, which is
+-- what stands in the buffer (`certificate-passes`), each bit of the region record is 1 for a state of that set and 0 else, a bit that stands
+-- for no state too; and region, replies, ranks and attacks are read as the game's.
 pub region-largest : (c : Circuit) → IsRegion (circuitGame c) (λ s. inRegion (circuitGame c) s ≡ true)
 region-largest c = region-is-largest (circuitGame c) (circuit-proper c)
 
@@ -149,19 +153,22 @@ pub ranks-right : (c : Circuit) → AreRanks (circuitGame c) (rank (circuitGame 
 ranks-right c = ranks-are (circuitGame c) (circuit-proper c)
 
 module _ (file : List ℕ) (c : Circuit) (reads : circuitIn file ≡ taken c) where
-  module _ (region table L U : ℕ) (pass : answerOf file (certificateOf file c) ≡ taken (ofReplies region table L U)) (s : ℕ) (state : s < 2 ^ L) where
-    pub region-reported : holdsState (drop region (certificateOf file c)) L s ≡ inRegion (circuitGame c) s
-    region-reported = own-region file c reads region table L U pass s state
+  module _ (region table L U : ℕ) (pass : answerOf file (certificateOf file c) ≡ taken (ofReplies region table L U)) where
+    pub region-bit-reported : (i : ℕ) → i < 8 * regionLength L → byteBit (drop region (certificateOf file c)) i ≡ oneIf (ltb i (2 ^ L) && inRegion (circuitGame c) i)
+    region-bit-reported i h = own-bit file c reads region table L U pass i h
 
-    pub reply-reported : (r : ℕ) → r < 2 ^ U → replyIn (drop region (certificateOf file c)) (drop table (certificateOf file c)) L U s r ≡ reply (circuitGame c) s r
-    reply-reported r h = own-reply file c reads region table L U pass s state r h
+    pub region-reported : (s : ℕ) → s < 2 ^ L → holdsState (drop region (certificateOf file c)) L s ≡ inRegion (circuitGame c) s
+    region-reported s h = own-region file c reads region table L U pass s h
 
-  module _ (table L U : ℕ) (pass : answerOf file (certificateOf file c) ≡ taken (ofAttacks table L U)) (s : ℕ) (state : s < 2 ^ L) where
-    pub rank-reported : storedRank (drop table (certificateOf file c)) L s ≡ rank (circuitGame c) s
-    rank-reported = own-rank file c reads table L U pass s state
+    pub reply-reported : (s r : ℕ) → s < 2 ^ L → r < 2 ^ U → replyIn (drop region (certificateOf file c)) (drop table (certificateOf file c)) L U s r ≡ reply (circuitGame c) s r
+    reply-reported s r h l = own-reply file c reads region table L U pass s h r l
 
-    pub attack-reported : storedAttack (drop table (certificateOf file c)) L s ≡ attack (circuitGame c) s
-    attack-reported = own-attack file c reads table L U pass s state
+  module _ (table L U : ℕ) (pass : answerOf file (certificateOf file c) ≡ taken (ofAttacks table L U)) where
+    pub rank-reported : (s : ℕ) → s < 2 ^ L → storedRank (drop table (certificateOf file c)) L s ≡ rank (circuitGame c) s
+    rank-reported s h = own-rank file c reads table L U pass s h
+
+    pub attack-reported : (s : ℕ) → s < 2 ^ L → storedAttack (drop table (certificateOf file c)) L s ≡ attack (circuitGame c) s
+    attack-reported s h = own-attack file c reads table L U pass s h
 
 -- "A printed circuit reads back as the same circuit." What a printer counted stands at the front of its buffer; whatever is asked of the circuit
 -- that is read there is answered alike (`Alike`).
@@ -205,9 +212,13 @@ module _ (file certificate : List ℕ) (c : Circuit) (reads : circuitIn file ≡
 pub never-both : (file one other : List ℕ) (region table L U table₂ L₂ U₂ : ℕ) → answerOf file one ≡ taken (ofReplies region table L U) → answerOf file other ≡ taken (ofAttacks table₂ L₂ U₂) → ⊥
 never-both file one other region table L U table₂ L₂ U₂ e f = never-both-as-read file one other region table L U table₂ L₂ U₂ e f
 
--- "Each circuit that is read gets, given the room, a certificate from our own solver, and that one passes." 49,298 bytes are room for each.
-pub certificate-passes : (file : List ℕ) (c : Circuit) (before after : List ℕ) (r : Certified) → circuitIn file ≡ taken c → CertifiedAs file (circuitIn file) before after r → length (certificateOf file c) ≤ length before → (v : Verdict) × (starts : Starts) × (certifiedOutcome r ≡ taken v) × (v .realizable ≡ isRealizable c) × (answerOf file (take (v .count) after) ≡ taken starts)
-certificate-passes file c before after r reads w room = let p = room-certifies file c before after r reads w room in (p .verdict, p .starts, p .told-is, p .right, p .passes)
+-- "Each circuit that is read gets, given the room, a certificate from our own solver, and that one passes." What is counted stands at the
+-- front of the buffer and is the certificate of the definition, so what rule 2 says of `certificateOf` is said of what was written. 49,298
+-- bytes are room for each.
+pub certificate-passes : (file : List ℕ) (c : Circuit) (before after : List ℕ) (r : Certified) → circuitIn file ≡ taken c → CertifiedAs file (circuitIn file) before after r → length (certificateOf file c) ≤ length before → (v : Verdict) × (starts : Starts) × (certifiedOutcome r ≡ taken v) × (v .realizable ≡ isRealizable c) × (v .count ≡ length (certificateOf file c)) × (take (v .count) after ≡ certificateOf file c) × (answerOf file (take (v .count) after) ≡ taken starts)
+certificate-passes file c before after r reads w room =
+    let (v, told, p) = room-certifies file c before after r reads w room in
+    (v, p .starts, told, p .right, p .counted, p .stands, p .passes)
 
 pub room-enough : (file : List ℕ) (c : Circuit) → circuitIn file ≡ taken c → length (certificateOf file c) ≤ 49298
 room-enough file c reads = longest-certificate file c reads

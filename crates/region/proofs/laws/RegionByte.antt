@@ -1,27 +1,21 @@
--- A bit of the region by its two tests, the byte of eight such bits, and the bytes of a set of states. Assumes nothing.
+-- A bit of the region by its two tests, the byte of eight such bits, and the first bytes of a set of states. Assumes nothing.
 use Prim.Native.Nat.{ℕ, _+_, _*_, _/_, _^_, _<_, _≤_}
-use native.Mathlib.Decide.{decLt}
 use native.Mathlib.Nat.{add-zero}
 use native.Mathlib.Omega.{arith}
 use mathlib.Core.Bool.{Bool, not, _&&_}
 use mathlib.Core.List.{List}
-use mathlib.Core.Path.{_≡_, sym, ap, ap₂, _∙_}
+use mathlib.Core.Path.{_≡_, sym, ap, ap₂}
 use lib.Dec.{ltb}
 use lib.ListN.{take}
 use borrow.Author.Tests.{lt-ltb, le-ltb}
 use Rattle.below.specs.Table.{table}
-use Rattle.below.proofs.laws.Table.{table-same}
 use Rattle.below.proofs.laws.Take.{take-table}
 use Rattle.bits.specs.Bit.{oneIf}
 use Rattle.bits.specs.Digits.{sum}
 use Rattle.circuit.specs.Limits.{base}
-use Rattle.game.specs.Game.{Game}
-use Rattle.game.specs.Rank.{inRegion}
 use Rattle.keeping.specs.RankList.{ranksIn}
 use Rattle.solver.specs.Over.{rankZero}
-use Rattle.solver.specs.RankTable.{rankTable}
 use Rattle.region.specs.RegionTable.{regionByte, regionTable}
-use Rattle.solver.proofs.laws.RankTable.{rank-in-table}
 
 module _ (ranks : List ℕ) (states s x : ℕ) (is : x ≡ ranksIn ranks s) where
   pub bit-inside : s < states → x ≡ 0 → 1 ≡ oneIf (ltb s states && rankZero ranks s)
@@ -41,24 +35,7 @@ module _ (set : ℕ → Bool) (states j : ℕ) where
   unfolding regionByte sum table
   byte-of b0 b1 b2 b3 b4 b5 b6 b7 e0 e1 e2 e3 e4 e5 e6 e7 = omega (arith, ap (λ (s : ℕ). oneIf (ltb s states && set s)) (add-zero (8 * j)))
 
--- the same set below the last state, the same bytes
-byte-same : (set other : ℕ → Bool) (states j : ℕ) → ((s : ℕ) → s < states → set s ≡ other s) → regionByte set states j ≡ regionByte other states j
-unfolding regionByte
-byte-same set other states j e = ap (sum 2) (table-same _ _ 8 (λ k h. ap oneIf (elim (decLt (8 * j + k) states) [ yes l ↦ ap (λ (b : Bool). ltb (8 * j + k) states && b) (e (8 * j + k) l) | no l ↦ none (8 * j + k) (omega arith) ])))
-  where
-    none : (s : ℕ) → states ≤ s → (ltb s states && set s) ≡ (ltb s states && other s)
-    none s l = rw (le-ltb s states l)
-
-pub region-same : (set other : ℕ → Bool) (states : ℕ) → ((s : ℕ) → s < states → set s ≡ other s) → regionTable set states ≡ regionTable other states
-unfolding regionTable
-region-same set other states e = table-same _ _ (2 ^ base .latches / 8) (λ j h. byte-same set other states j e)
-
 -- the first bytes of a region
 pub region-front : (set : ℕ → Bool) (states n : ℕ) → n ≤ 2 ^ base .latches / 8 → take n (regionTable set states) ≡ table (regionByte set states) n
 unfolding regionTable
 region-front set states n h = take-table (regionByte set states) (2 ^ base .latches / 8) n h
-
--- the states of rank 0 are the region
-pub zero-in-region : (g : Game) → g .states ≤ 2 ^ base .latches → (ranks : List ℕ) → ranks ≡ rankTable g → regionTable (rankZero ranks) (g .states) ≡ regionTable (inRegion g) (g .states)
-unfolding rankZero inRegion
-zero-in-region g few ranks e = region-same (rankZero ranks) (inRegion g) (g .states) (λ s h. ap (λ (n : ℕ). not (ltb 0 n)) (ap (λ (l : List ℕ). ranksIn l s) e ∙ rank-in-table g few s h))

@@ -29,10 +29,6 @@ whole-game : (c : Circuit) (readings controls : ℕ) → min readings (2 ^ base 
 unfolding played circuitGame
 whole-game c readings controls e f = λ x. record { states = 2 ^ latchCount c; readings = e x; controls = f x; step = step c }
 
-empty-few : 2 ^ latchCount emptyCircuit ≤ 2 ^ base .latches
-unfolding latchCount emptyCircuit
-empty-few = omega arith
-
 -- the empty circuit, by lists
 empty-lent : (controllable next : List ℕ) → lent 0 [] controllable [] next 0 [] [] [] ≡ emptyCircuit
 unfolding lent inputsOf latchesOf gatesOf literalOf tooLarge table emptyCircuit
@@ -87,14 +83,6 @@ module _ (largest : ℕ) (input controllable latch next : List ℕ) (output : �
       by true false e = absurd (true≢false e)
       by false true e = absurd (true≢false (sym e))
       by false false e = game-any-largest largest other input controllable latch next output gate left right
-
-  pub solvable-few : (circuitGame (solvable (lent largest input controllable latch next output gate left right))) .states ≤ 2 ^ base .latches
-  unfolding solvable circuitGame
-  solvable-few = by (tooMany base (lent largest input controllable latch next output gate left right))
-    where
-      by : (b : Bool) → 2 ^ latchCount (cond b emptyCircuit (lent largest input controllable latch next output gate left right)) ≤ 2 ^ base .latches
-      by true = empty-few
-      by false = few-states
 
 module _ (c : Circuit) where
   pub small-solvable : uncontrollableCount c ≤ base .uncontrollable → controllableCount c ≤ base .controllable → solvable c ≡ c

@@ -1,17 +1,21 @@
 -- Our own certificate (the mission's rule 3, last sentence): given the room it is written and passes, and what is read of it is the region,
 -- the replies, the ranks and the attacks of the circuit's game. A refusal writes nothing. Assumes nothing.
-use Prim.Native.Nat.{ℕ, _^_, _<_, _≤_}
+use Prim.Native.Nat.{ℕ, _*_, _/_, _%_, _^_, _<_, _≤_}
 use native.Mathlib.Omega.{arith}
-use mathlib.Core.Bool.{Bool, true, false}
+use mathlib.Core.Bool.{Bool, true, false, _&&_}
 use mathlib.Core.List.{List}
 use mathlib.Core.Logic.{_↔_}
 use mathlib.Core.Path.{_≡_, refl, sym, ap, _∙_, subst}
+use lib.Dec.{ltb}
 use lib.ListN.{length, take, drop}
+use lib.Seq.{getD-take}
+use Rattle.bits.specs.Bit.{bit, oneIf}
+use Rattle.bits.specs.ByteBit.{byteBit}
 use Rattle.circuit.specs.Answer.{fitted, bufferAfter}
 use Rattle.circuit.specs.Circuit.{Circuit, latchCount, uncontrollableCount}
 use Rattle.circuit.specs.Outcome.{Outcome, taken, refused, _>>=_}
 use Rattle.circuit.proofs.laws.Answer.{fitted-taken}
-use Rattle.circuit.proofs.laws.Outcome.{refused-is-not-taken}
+use Rattle.circuit.proofs.laws.Outcome.{refused-is-not-taken, bind-taken}
 use Rattle.text.proofs.laws.Outcome.{moved}
 use Rattle.file.specs.CircuitIn.{circuitIn}
 use Rattle.file.specs.WriterRow.{WriterRow}
@@ -23,17 +27,19 @@ use Rattle.game.specs.Reply.{reply}
 use Rattle.game.proofs.laws.Reply.{reply-outside as no-reply}
 use Rattle.records.specs.AttackTable.{storedRank, storedAttack}
 use Rattle.records.specs.Passed.{replyIn}
-use Rattle.records.specs.RegionBits.{holdsState}
+use Rattle.records.specs.RegionBits.{regionLength, holdsState, regionBytes}
 use Rattle.records.specs.ReplyBytes.{storedReply}
 use Rattle.records.specs.Tables.{Tables, replies, attacks}
+use Rattle.records.proofs.laws.Lengths.{length-region}
 use Rattle.records.proofs.laws.Passed.{reply-inside, reply-outside}
+use Rattle.records.proofs.laws.ReadBack.{region-bit}
 use Rattle.checker.specs.Answer.{Starts, ofReplies, ofAttacks, startsOf, answerOf}
 use Rattle.checker.specs.Check.{checkOf}
 use Rattle.checker.proofs.laws.ReadPassed.{RepliesTook, replies-took, bits-are, replies-are, AttacksTook, attacks-took, ranks-are, attacks-are, took-answers}
 use Rattle.writer.specs.declared.Certified.{Certified}
 use Rattle.writer.specs.Answer.{Verdict, certifiedOutcome, certificateFor, verdictFor, CertifiedAs}
 use Rattle.writer.specs.Certificate.{certificateOf}
-use Rattle.writer.proofs.laws.Passes.{ownTables, written-passes, buffer-passes}
+use Rattle.writer.proofs.laws.Passes.{ownTables, written-passes, buffer-holds}
 use Rattle.writer.proofs.laws.RulesKept.{ownRegion, ownReplies, ownAttacks, holds-is, stored-is, rank-is, attack-is}
 use Rattle.writer.proofs.laws.Within.{read-within}
 
@@ -52,32 +58,50 @@ refused-certifies-nothing file (taken c) before after r number place w e = by (f
     by (refused n p) f g = g
 
 -- it is refused exactly with the file's number, or with 10
-pub certify-refused-exactly : (file before after : List ℕ) (r : Certified) (number place : ℕ) → CertifiedAs file (circuitIn file) before after r → (certifiedOutcome r ≡ refused number place) ↔ WriterRow file (certificateOf file) (length before) number place
+pub verdict-refused-exactly : (file : List ℕ) (room number place : ℕ) → (verdictFor file (circuitIn file) room ≡ refused number place) ↔ WriterRow file (certificateOf file) room number place
 unfolding verdictFor
-certify-refused-exactly file before after r number place w =
-    let row = no-room-exactly file (certificateOf file) (length before) number place in
-    (λ e. row .0 (by (circuitIn file) .0 (sym (w .answer) ∙ e)), λ t. w .answer ∙ by (circuitIn file) .1 (row .1 t))
+verdict-refused-exactly file room number place = let row = no-room-exactly file (certificateOf file) room number place in (λ e. row .0 (by (circuitIn file) .0 e), λ t. by (circuitIn file) .1 (row .1 t))
   where
-    by : (o : Outcome Circuit) → (verdictFor file o (length before) ≡ refused number place) ↔ ((o >>= λ c. fitted (certificateOf file c) (length before)) ≡ refused number place)
-    by (taken c) = told-refused (fitted (certificateOf file c) (length before)) (λ bytes. record { realizable = isRealizable c; count = length bytes }) number place
+    by : (o : Outcome Circuit) → (verdictFor file o room ≡ refused number place) ↔ ((o >>= λ c. fitted (certificateOf file c) room) ≡ refused number place)
+    by (taken c) = told-refused (fitted (certificateOf file c) room) (λ bytes. record { realizable = isRealizable c; count = length bytes }) number place
     by (refused n p) = (λ e. moved n p number place e, λ e. moved n p number place e)
 
--- a certificate that was written, and passes
-pub record Passing (file : List ℕ) (c : Circuit) (after : List ℕ) (r : Certified) : Type 0 where
-  pub verdict : Verdict
-  pub starts : Starts
-  pub told-is : certifiedOutcome r ≡ taken verdict
-  pub right : verdict .realizable ≡ isRealizable c
-  pub passes : answerOf file (take (verdict .count) after) ≡ taken starts
+pub certify-refused-exactly : (file before after : List ℕ) (r : Certified) (number place : ℕ) → CertifiedAs file (circuitIn file) before after r → (certifiedOutcome r ≡ refused number place) ↔ WriterRow file (certificateOf file) (length before) number place
+certify-refused-exactly file before after r number place w = let row = verdict-refused-exactly file (length before) number place in (λ e. row .0 (sym (w .answer) ∙ e), λ t. w .answer ∙ row .1 t)
 
-pub room-certifies : (file : List ℕ) (c : Circuit) (before after : List ℕ) (r : Certified) → circuitIn file ≡ taken c → CertifiedAs file (circuitIn file) before after r → length (certificateOf file c) ≤ length before → Passing file c after r
+-- a certificate that was written, as it is told: its bytes stand at the front of the buffer, and it passes
+pub record Passing (file : List ℕ) (c : Circuit) (after : List ℕ) (v : Verdict) : Type 0 where
+  pub starts : Starts
+  pub right : v .realizable ≡ isRealizable c
+  pub counted : v .count ≡ length (certificateOf file c)
+  pub stands : take (v .count) after ≡ certificateOf file c
+  pub passes : answerOf file (take (v .count) after) ≡ taken starts
+
+pub told-passes : (file : List ℕ) (c : Circuit) (before after : List ℕ) (v : Verdict) → circuitIn file ≡ taken c → verdictFor file (circuitIn file) (length before) ≡ taken v → after ≡ bufferAfter (certificateFor file (circuitIn file) (length before)) before → Passing file c after v
+told-passes file c before after v reads told written =
+    let says : verdictFor file (taken c) (length before) ≡ taken v = subst (λ (o : Outcome Circuit). verdictFor file o (length before) ≡ taken v) reads told in
+    let leaves : after ≡ bufferAfter (certificateFor file (taken c) (length before)) before = subst (λ (o : Outcome Circuit). after ≡ bufferAfter (certificateFor file o (length before)) before) reads written in
+    let (verdict, counted, stands) = buffer-holds file c before after v says leaves in
+    record {
+      starts = startsOf c (ownTables file c);
+      right = verdict;
+      counted = counted;
+      stands = stands;
+      passes = ap (answerOf file) stands ∙ took-answers file (certificateOf file c) c reads (ownTables file c) (written-passes file c reads);
+    }
+
+-- given the room it is told
+pub room-certifies : (file : List ℕ) (c : Circuit) (before after : List ℕ) (r : Certified) → circuitIn file ≡ taken c → CertifiedAs file (circuitIn file) before after r → length (certificateOf file c) ≤ length before → (v : Verdict) × (certifiedOutcome r ≡ taken v) × Passing file c after v
 unfolding verdictFor
 room-certifies file c before after r reads w room =
-    let u : CertifiedAs file (taken c) before after r = subst (λ (o : Outcome Circuit). CertifiedAs file o before after r) reads w in
     let v : Verdict = record { realizable = isRealizable c; count = length (certificateOf file c) } in
-    let says : certifiedOutcome r ≡ taken v = u .answer ∙ ap (told c) (fitted-taken (certificateOf file c) (length before) room) in
-    let (verdict, passes) = buffer-passes file c before after r v reads u says in
-    record { verdict = v; starts = startsOf c (ownTables file c); told-is = says; right = verdict; passes = took-answers file (take (v .count) after) c reads (ownTables file c) passes }
+    let says : verdictFor file (circuitIn file) (length before) ≡ taken v = ap (λ (o : Outcome Circuit). verdictFor file o (length before)) reads ∙ ap (told c) (fitted-taken (certificateOf file c) (length before) room) in
+    (v, w .answer ∙ says, told-passes file c before after v reads says (w .bytes))
+
+-- a verdict is told of a file that is read only
+pub told-reads : (file : List ℕ) (room : ℕ) (v : Verdict) → verdictFor file (circuitIn file) room ≡ taken v → (c : Circuit) × (circuitIn file ≡ taken c)
+unfolding verdictFor
+told-reads file room v told = let (c, reads, rest) = bind-taken (circuitIn file) (λ c. fitted (certificateOf file c) room >>= λ bytes. taken (record { realizable = isRealizable c; count = length bytes })) v told in (c, reads)
 
 module _ (file : List ℕ) (c : Circuit) (reads : circuitIn file ≡ taken c) where
   abbrev own : List ℕ
@@ -104,31 +128,48 @@ module _ (file : List ℕ) (c : Circuit) (reads : circuitIn file ≡ taken c) wh
       by false f g = cc
 
   -- the region and the replies that are read are the game's
-  module _ (region table L U : ℕ) (pass : answerOf file own ≡ taken (ofReplies region table L U)) (s : ℕ) (state : s < 2 ^ L) where
+  module _ (region table L U : ℕ) (pass : answerOf file own ≡ taken (ofReplies region table L U)) where
     abbrev w : RepliesTook file own c reads region table L U
     w = replies-took file own c reads region table L U pass
 
     are : (w .regionBytes ≡ ownRegion c) × (w .tableBytes ≡ ownReplies c)
     are = replies-own (w .circuitBytes) (w .regionBytes) (w .kind) (w .tableBytes) (w .checks)
 
-    below : s < 2 ^ latchCount c
-    below = subst (λ (n : ℕ). s < 2 ^ n) (sym (w .latches)) state
+    -- the region record, byte by byte
+    region-bytes : take (regionLength L) (drop region own) ≡ regionBytes (inRegion (circuitGame c)) L
+    unfolding ownRegion
+    region-bytes =
+        let as-own : w .regionBytes ≡ regionBytes (inRegion (circuitGame c)) L = are .0 ∙ ap (regionBytes (inRegion (circuitGame c))) (w .latches) in
+        let long : length (w .regionBytes) ≡ regionLength L = ap length as-own ∙ length-region (inRegion (circuitGame c)) L in
+        ap (λ (n : ℕ). take n (drop region own)) (sym long) ∙ sym (w .region-front) ∙ as-own
 
-    pub own-region : holdsState (drop region own) L s ≡ inRegion (circuitGame c) s
-    unfolding circuitGame
-    own-region = sym (bits-are file own c reads region table L U pass s) ∙ ap (λ (l : List ℕ). holdsState l (latchCount c) s) (are .0) ∙ holds-is c s below
+    -- each bit of the region record: 1 for a state of the region, else 0; a bit that stands for no state is 0
+    pub own-bit : (i : ℕ) → i < 8 * regionLength L → byteBit (drop region own) i ≡ oneIf (ltb i (2 ^ L) && inRegion (circuitGame c) i)
+    unfolding byteBit
+    own-bit i within =
+        ap (λ (b : ℕ). bit b (i % 8)) (sym (getD-take (regionLength L) (drop region own) (i / 8) 0 (omega arith)))
+        ∙ ap (λ (l : List ℕ). byteBit l i) region-bytes
+        ∙ region-bit (inRegion (circuitGame c)) L i within
 
-    pub own-reply : (r : ℕ) → r < 2 ^ U → replyIn (drop region own) (drop table own) L U s r ≡ reply (circuitGame c) s r
-    unfolding circuitGame
-    own-reply r reading = by (inRegion (circuitGame c) s) refl
-      where
-        by : (b : Bool) → inRegion (circuitGame c) s ≡ b → replyIn (drop region own) (drop table own) L U s r ≡ reply (circuitGame c) s r
-        by true e =
-            reply-inside (drop region own) (drop table own) L U s r (own-region ∙ e)
-            ∙ sym (replies-are file own c reads region table L U pass s r)
-            ∙ ap (λ (l : List ℕ). storedReply l (latchCount c) (uncontrollableCount c) s r) (are .1)
-            ∙ stored-is c s r below (subst (λ (n : ℕ). r < 2 ^ n) (sym (w .readings)) reading)
-        by false e = reply-outside (drop region own) (drop table own) L U s r (own-region ∙ e) ∙ sym (no-reply (circuitGame c) s r e)
+    module _ (s : ℕ) (state : s < 2 ^ L) where
+      below : s < 2 ^ latchCount c
+      below = subst (λ (n : ℕ). s < 2 ^ n) (sym (w .latches)) state
+
+      pub own-region : holdsState (drop region own) L s ≡ inRegion (circuitGame c) s
+      unfolding circuitGame
+      own-region = sym (bits-are file own c reads region table L U pass s) ∙ ap (λ (l : List ℕ). holdsState l (latchCount c) s) (are .0) ∙ holds-is c s below
+
+      pub own-reply : (r : ℕ) → r < 2 ^ U → replyIn (drop region own) (drop table own) L U s r ≡ reply (circuitGame c) s r
+      unfolding circuitGame
+      own-reply r reading = by (inRegion (circuitGame c) s) refl
+        where
+          by : (b : Bool) → inRegion (circuitGame c) s ≡ b → replyIn (drop region own) (drop table own) L U s r ≡ reply (circuitGame c) s r
+          by true e =
+              reply-inside (drop region own) (drop table own) L U s r (own-region ∙ e)
+              ∙ sym (replies-are file own c reads region table L U pass s r)
+              ∙ ap (λ (l : List ℕ). storedReply l (latchCount c) (uncontrollableCount c) s r) (are .1)
+              ∙ stored-is c s r below (subst (λ (n : ℕ). r < 2 ^ n) (sym (w .readings)) reading)
+          by false e = reply-outside (drop region own) (drop table own) L U s r (own-region ∙ e) ∙ sym (no-reply (circuitGame c) s r e)
 
   -- and so are the ranks and the attacks
   module _ (table L U : ℕ) (pass : answerOf file own ≡ taken (ofAttacks table L U)) (s : ℕ) (state : s < 2 ^ L) where

@@ -35,8 +35,7 @@ use Rattle.checker.specs.Check.{acceptedKinds, orBadShape, tablesChecked, check
 use Rattle.checker.specs.Numbers.{otherCircuit, badTable, badReset, brokenStep}
 use Rattle.checker.specs.Rules.{badReplyTables, badAttackTable, resetOutside, resetUnranked, brokenReply, brokenAttack}
 use Rattle.checker.proofs.laws.Pass.{TablesPass}
-use Rattle.writer.specs.declared.Certified.{Certified}
-use Rattle.writer.specs.Answer.{Verdict, certifiedOutcome, certificateFor, verdictFor, CertifiedAs}
+use Rattle.writer.specs.Answer.{Verdict, certificateFor, verdictFor}
 use Rattle.writer.specs.Certificate.{replyCertificate, attackCertificate, certificateOf}
 use Rattle.writer.proofs.laws.Certified.{replies-of, attacks-of}
 use Rattle.writer.proofs.laws.RulesKept.{ownRegion, ownReplies, ownAttacks, replies-pass, attacks-pass}
@@ -93,10 +92,11 @@ written-passes file c reads = by (isRealizable c) refl
     by true e = rw (replies-of file c e, e) (passes-of file (replyCertificate file c) c (replies file (ownRegion c) replyKind (ownReplies c)) reads (reply-tables file c within) refl (replies-pass c e))
     by false e = rw (attacks-of file c e, e) (passes-of file (attackCertificate file c) c (attacks file (ownAttacks c)) reads (attack-tables file c within) refl (attacks-pass c (within .fewLatches) e))
 
--- and so does what a writer leaves at the front of its buffer, with the verdict that it tells
-pub buffer-passes : (file : List ℕ) (c : Circuit) (before after : List ℕ) (r : Certified) (v : Verdict) → circuitIn file ≡ taken c → CertifiedAs file (taken c) before after r → certifiedOutcome r ≡ taken v → (v .realizable ≡ isRealizable c) × (checkOf file (take (v .count) after) ≡ taken (ownTables file c))
+-- where a verdict is told, the certificate stands at the front of the buffer: the verdict is the circuit's, the count is the certificate's
+-- length, and so many bytes of the buffer are the certificate
+pub buffer-holds : (file : List ℕ) (c : Circuit) (before after : List ℕ) (v : Verdict) → verdictFor file (taken c) (length before) ≡ taken v → after ≡ bufferAfter (certificateFor file (taken c) (length before)) before → (v .realizable ≡ isRealizable c) × (v .count ≡ length (certificateOf file c)) × (take (v .count) after ≡ certificateOf file c)
 unfolding certificateFor verdictFor bufferAfter
-buffer-passes file c before after r v reads w told = elim (decLe (length certificate) (length before)) [ yes h ↦ fits h | no h ↦ absurd (refused-is-not-taken noRoom 0 v (sym (ap verdict (fitted-refused certificate (length before) (omega arith))) ∙ sym (w .answer) ∙ told)) ]
+buffer-holds file c before after v told written = elim (decLe (length certificate) (length before)) [ yes h ↦ fits h | no h ↦ absurd (refused-is-not-taken noRoom 0 v (sym (ap verdict (fitted-refused certificate (length before) (omega arith))) ∙ told)) ]
   where
     certificate : List ℕ
     certificate = certificateOf file c
@@ -104,11 +104,12 @@ buffer-passes file c before after r v reads w told = elim (decLe (length certifi
     verdict : Outcome (List ℕ) → Outcome Verdict
     verdict o = o >>= λ bytes. taken (record { realizable = isRealizable c; count = length bytes })
 
-    fits : length certificate ≤ length before → (v .realizable ≡ isRealizable c) × (checkOf file (take (v .count) after) ≡ taken (ownTables file c))
+    fits : length certificate ≤ length before → (v .realizable ≡ isRealizable c) × (v .count ≡ length certificate) × (take (v .count) after ≡ certificate)
     fits h =
-        let says : taken v ≡ verdict (taken certificate) = sym told ∙ w .answer ∙ ap verdict (fitted-taken certificate (length before) h) in
+        let says : taken v ≡ verdict (taken certificate) = sym told ∙ ap verdict (fitted-taken certificate (length before) h) in
         let is : v ≡ record { realizable = isRealizable c; count = length certificate } = cc in
-        let stands : after ≡ certificate ++ drop (length certificate) before = w .bytes ∙ ap (λ (o : Outcome (List ℕ)). bufferAfter o before) (fitted-taken certificate (length before) h) in (
+        let stands : after ≡ certificate ++ drop (length certificate) before = written ∙ ap (λ (o : Outcome (List ℕ)). bufferAfter o before) (fitted-taken certificate (length before) h) in (
           (λ x. is x .realizable),
-          ap (checkOf file) ((λ x. take (is x .count) (stands x)) ∙ take-at certificate (drop (length certificate) before) (length certificate) refl) ∙ written-passes file c reads,
+          (λ x. is x .count),
+          (λ x. take (is x .count) (stands x)) ∙ take-at certificate (drop (length certificate) before) (length certificate) refl,
         )
