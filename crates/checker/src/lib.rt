@@ -60,7 +60,7 @@ pub fn check<'a>(file: &'a [u8], certificate: &'a [u8]) -> Checked
 
 // 11 to 15 of a certificate for a circuit that was read from `file`. One with more inputs of a sort than a circuit may have counts as the
 // empty circuit.
-pub fn check_circuit<'a>(c: Circuit, file: &'a [u8], certificate: &'a [u8]) -> Checked
+fn check_circuit<'a>(c: Circuit, file: &'a [u8], certificate: &'a [u8]) -> Checked
     ensures { λ r. ⌜ checkedOutcome r ≡ circuitChecked (solvable (meant c)) (now (file .entry)) (now (certificate .entry)) ⌝ }
 {
     check_counted(

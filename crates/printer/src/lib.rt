@@ -41,7 +41,7 @@ pub fn print(file: &[u8], out: &mut [u8]) -> Written
 }
 
 // Prints a circuit at the front of the buffer. Where the buffer is shorter than the print, nothing is written.
-pub fn print_circuit(c: Circuit, out: &mut [u8]) -> Written
+fn print_circuit(c: Circuit, out: &mut [u8]) -> Written
     ensures { λ r. ⌜ WrittenAs (printedInto (meant c) (length (now (out .entry)))) (now (out .entry)) (now (out .exit)) r ⌝ }
 {
     if circuit_print_length(c) <= out.len() {
@@ -55,7 +55,7 @@ pub fn print_circuit(c: Circuit, out: &mut [u8]) -> Written
 }
 
 // How many bytes the print of a circuit has.
-pub fn circuit_print_length(c: Circuit) -> usize
+fn circuit_print_length(c: Circuit) -> usize
     ensures { λ r. ⌜ r ≡ length (printed (meant c)) ⌝ }
 {
     let mut short = [0u8; 1];

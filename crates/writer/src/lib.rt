@@ -34,7 +34,7 @@ pub fn certify(file: &[u8], out: &mut [u8]) -> Certified
 // Writes the certificate of a circuit that was read from `file` at the front of a lent buffer. One with more inputs of a sort than a
 // circuit may have counts as the empty circuit. The rank of state 0 says which certificate it is. Where the buffer is too short, nothing
 // is written.
-pub fn certify_circuit(c: Circuit, file: &[u8], out: &mut [u8]) -> Certified
+fn certify_circuit(c: Circuit, file: &[u8], out: &mut [u8]) -> Certified
     ensures { λ r. ⌜ CertifiedAs (now (file .entry)) (taken (solvable (meant c))) (now (out .entry)) (now (out .exit)) r ⌝ }
 {
     let n = solver::counts::counted(c);
