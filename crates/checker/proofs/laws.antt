@@ -13,3 +13,4 @@ pub mod Counted
 pub mod Answer
 pub mod Exact
 pub mod Front
+pub mod Numbered

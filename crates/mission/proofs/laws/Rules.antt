@@ -5,15 +5,15 @@ use Prim.Native.Nat.{ℕ, _*_, _^_, _<_, _≤_}
 use lib.Pow.{pow-mono}
 use mathlib.Core.Bool.{true, false, _&&_}
 use mathlib.Core.List.{List, []}
-use mathlib.Core.Logic.{_↔_}
+use mathlib.Core.Logic.{_↔_, _⊎_}
 use mathlib.Core.Path.{_≡_, sym, _∙_}
 use lib.Dec.{ltb}
 use lib.ListN.{length, take, drop}
 use Rattle.bits.specs.Bit.{oneIf}
 use Rattle.bits.specs.ByteBit.{byteBit}
 use Rattle.bits.specs.Digits.{AllBelow}
-use Rattle.circuit.specs.Answer.{ReadAs, readOutcome, WrittenAs, writtenOutcome}
-use Rattle.circuit.specs.Circuit.{Circuit, controllableCount, tooMany}
+use Rattle.circuit.specs.Answer.{ReadAs, readOutcome, WrittenAs, writtenOutcome, countOf, bufferAfter}
+use Rattle.circuit.specs.Circuit.{Circuit, latchCount, uncontrollableCount, controllableCount, tooMany}
 use Rattle.circuit.specs.Limits.{base}
 use Rattle.circuit.specs.Outcome.{taken, refused}
 use Rattle.circuit.specs.Reset.{isReset}
@@ -30,6 +30,7 @@ use Rattle.text.specs.Written.{textOf}
 use Rattle.text.proofs.laws.Agree.{taken-exactly, written-once}
 use Rattle.text.proofs.laws.Exact.{refused-exactly, taken-circuit}
 use Rattle.text.proofs.laws.Outcome.{taken-is}
+use Rattle.step.specs.Step.{step}
 use Rattle.game.specs.Alike.{Alike}
 use Rattle.game.specs.Attack.{attack}
 use Rattle.game.specs.CircuitGame.{circuitGame, isRealizable}
@@ -53,22 +54,32 @@ use Rattle.records.specs.RegionBits.{regionLength, holdsState}
 use Rattle.file.specs.CircuitIn.{circuitIn}
 use Rattle.file.specs.WriterRow.{WriterRow}
 use Rattle.file.proofs.laws.Exact.{reader-refused-exactly}
+use Rattle.file.proofs.laws.Numbered.{file-numbered, writer-numbered as row-numbered}
 use Rattle.file.proofs.laws.Read.{taken-means}
 use Rattle.printer.specs.FilePrinted.{filePrinted}
-use Rattle.printer.proofs.laws.ReadsBack.{print-reads-back, print-refused-exactly}
+use Rattle.printer.proofs.laws.ReadsBack.{print-reads-back, count-refused-exactly, print-refused-exactly}
 use Rattle.checker.specs.Answer.{Starts, ofReplies, ofAttacks, answerOf, checkedOutcome}
 use Rattle.checker.specs.CheckRow.{CheckRow}
 use Rattle.checker.specs.declared.Checked.{Checked}
 use Rattle.checker.proofs.laws.Answer.{same-outcome-same-answer}
 use Rattle.checker.proofs.laws.Exact.{check-refused-exactly}
+use Rattle.checker.proofs.laws.Numbered.{check-numbered}
 use Rattle.checker.proofs.laws.ReadPassed.{passed-reads, carries-its-file, never-both-as-read, replies-hold-as-read, replies-realizable-as-read, attacks-err-as-read, attacks-unrealizable-as-read}
-use Rattle.writer.specs.Answer.{Verdict, CertifiedAs, certifiedOutcome}
+use Rattle.writer.specs.Answer.{Verdict, CertifiedAs, certifiedOutcome, certificateFor, verdictFor}
 use Rattle.writer.specs.Certificate.{certificateOf}
 use Rattle.writer.specs.declared.Certified.{Certified}
 use Rattle.writer.proofs.laws.Decided.{certified-decided}
 use Rattle.writer.proofs.laws.Longest.{longest-certificate}
 use Rattle.writer.proofs.laws.OwnCertificate.{refused-certifies-nothing, verdict-refused-exactly, certify-refused-exactly, room-certifies, own-bit, own-region, own-reply, own-rank, own-attack}
 use Rattle.writer.proofs.laws.Within.{read-within}
+use Rattle.capi.specs.Plain.{readAnswer, stepAnswer, certifyAnswer, checkAnswer, printAnswer}
+use Rattle.capi.specs.Stepped.{fileStepped}
+use Rattle.capi.specs.declared.CertifyAnswer.{CertifyAnswer}
+use Rattle.capi.specs.declared.CheckAnswer.{CheckAnswer}
+use Rattle.capi.specs.declared.PrintAnswer.{PrintAnswer}
+use Rattle.capi.specs.declared.ReadAnswer.{ReadAnswer}
+use Rattle.capi.specs.declared.StepAnswer.{StepAnswer}
+use Rattle.capi.proofs.laws.Zero.{zero-read, number-read, zero-stepped, number-stepped, zero-certified, number-certified, zero-replies, zero-attacks, zero-kind, number-checked, zero-printed, number-printed}
 
 -- RULE 1. Every input is met.
 --
@@ -90,6 +101,19 @@ writer-refuses-exactly file before after r number place w = certify-refused-exac
 
 pub printer-refuses-exactly : (file before after : List ℕ) (r : Written) (number place : ℕ) → WrittenAs (filePrinted file (length before)) before after r → (writtenOutcome r ≡ refused number place) ↔ WriterRow file printed (length before) number place
 printer-refuses-exactly file before after r number place w = print-refused-exactly file before after r number place w
+
+-- A refusal's number is one of the table's, and never 0.
+pub reader-numbered : (file : List ℕ) (r : FileRead) (number place : ℕ) → ReadAs (circuitIn file) r → readOutcome (r .answer) ≡ refused number place → (1 ≤ number) × (number ≤ 9)
+reader-numbered file r number place w e = file-numbered file number place (reader-refused-exactly file r number place w .0 e)
+
+pub checker-numbered : (file certificate : List ℕ) (a : Checked) (number place : ℕ) → checkedOutcome a ≡ answerOf file certificate → checkedOutcome a ≡ refused number place → (1 ≤ number) × (number ≤ 15)
+checker-numbered file certificate a number place w e = check-numbered file certificate number place (sym w ∙ e)
+
+pub writer-numbered : (file before after : List ℕ) (r : Certified) (number place : ℕ) → CertifiedAs file (circuitIn file) before after r → certifiedOutcome r ≡ refused number place → (1 ≤ number) × (number ≤ 10)
+writer-numbered file before after r number place w e = row-numbered file (certificateOf file) (length before) number place (certify-refused-exactly file before after r number place w .0 e)
+
+pub printer-numbered : (file before after : List ℕ) (r : Written) (number place : ℕ) → WrittenAs (filePrinted file (length before)) before after r → writtenOutcome r ≡ refused number place → (1 ≤ number) × (number ≤ 10)
+printer-numbered file before after r number place w e = row-numbered file printed (length before) number place (print-refused-exactly file before after r number place w .0 e)
 
 -- "no caller has to check first": no promise has a condition on what the call is given, and each decides its answer and its buffer.
 pub reader-decided : (file : List ℕ) (r s : FileRead) → ReadAs (circuitIn file) r → ReadAs (circuitIn file) s → r ≡ s
@@ -222,3 +246,46 @@ certificate-passes file c before after r reads w room =
 
 pub room-enough : (file : List ℕ) (c : Circuit) → circuitIn file ≡ taken c → length (certificateOf file c) ≤ 49298
 room-enough file c reads = longest-certificate file c reads
+
+-- FROM OTHER LANGUAGES. What the functions of `capi` answer are plain numbers: 0 says that nothing was refused, and then the rules above
+-- speak of the rest of the answer; any other number is the refusal's, with its place.
+module _ (file : List ℕ) where
+  pub zero-is-read : (a : ReadAnswer) → a ≡ readAnswer (circuitIn file) → a .number ≡ 0 → (c : Circuit) × (circuitIn file ≡ taken c) × (a .latches ≡ latchCount c) × (a .readings ≡ uncontrollableCount c) × (a .controls ≡ controllableCount c)
+  zero-is-read a is z = zero-read file a is z
+
+  pub read-number-refused : (a : ReadAnswer) → a ≡ readAnswer (circuitIn file) → 1 ≤ a .number → circuitIn file ≡ refused (a .number) (a .place)
+  read-number-refused a is h = number-read file a is h
+
+  module _ (s r k : ℕ) (a : StepAnswer) (is : a ≡ stepAnswer (fileStepped file s r k)) where
+    pub zero-is-stepped : a .number ≡ 0 → (c : Circuit) × (circuitIn file ≡ taken c) × (a .error ≡ (step c s r k) .error) × (a .next ≡ (step c s r k) .next)
+    zero-is-stepped z = zero-stepped file s r k a is z
+
+    pub step-number-refused : 1 ≤ a .number → circuitIn file ≡ refused (a .number) (a .place)
+    step-number-refused h = number-stepped file s r k a is h
+
+  module _ (before : List ℕ) (a : CertifyAnswer) (is : a ≡ certifyAnswer (verdictFor file (circuitIn file) (length before))) where
+    pub zero-is-certified : (after : List ℕ) → after ≡ bufferAfter (certificateFor file (circuitIn file) (length before)) before → a .number ≡ 0 → (c : Circuit) × (starts : Starts) × (circuitIn file ≡ taken c) × (a .realizable ≡ isRealizable c) × (take (a .bytes) after ≡ certificateOf file c) × (answerOf file (take (a .bytes) after) ≡ taken starts)
+    zero-is-certified after written z = zero-certified file before a is after written z
+
+    pub certify-number-refused : 1 ≤ a .number → WriterRow file (certificateOf file) (length before) (a .number) (a .place)
+    certify-number-refused h = verdict-refused-exactly file (length before) (a .number) (a .place) .0 (number-certified file before a is h)
+
+  module _ (certificate : List ℕ) (a : CheckAnswer) (is : a ≡ checkAnswer (answerOf file certificate)) where
+    pub zero-passes-replies : a .number ≡ 0 → a .kind ≡ 3 → answerOf file certificate ≡ taken (ofReplies (a .region) (a .table) (a .latches) (a .readings))
+    zero-passes-replies z k = zero-replies file certificate a is z k
+
+    pub zero-passes-attacks : a .number ≡ 0 → a .kind ≡ 4 → answerOf file certificate ≡ taken (ofAttacks (a .table) (a .latches) (a .readings))
+    zero-passes-attacks z k = zero-attacks file certificate a is z k
+
+    pub zero-passes-either : a .number ≡ 0 → (a .kind ≡ 3) ⊎ (a .kind ≡ 4)
+    zero-passes-either z = zero-kind file certificate a is z
+
+    pub check-number-refused : 1 ≤ a .number → CheckRow file certificate (a .number) (a .place)
+    check-number-refused h = check-refused-exactly file certificate (a .number) (a .place) .0 (number-checked file certificate a is h)
+
+  module _ (before : List ℕ) (a : PrintAnswer) (is : a ≡ printAnswer (countOf (filePrinted file (length before)))) where
+    pub zero-is-printed : (after : List ℕ) → after ≡ bufferAfter (filePrinted file (length before)) before → a .number ≡ 0 → (c : Circuit) × (circuitIn file ≡ taken c) × (circuitIn (take (a .bytes) after) ≡ taken c)
+    zero-is-printed after written z = zero-printed file before a is after written z
+
+    pub print-number-refused : 1 ≤ a .number → WriterRow file printed (length before) (a .number) (a .place)
+    print-number-refused h = count-refused-exactly file (length before) (a .number) (a .place) .0 (number-printed file before a is h)
