@@ -4,3 +4,8 @@ pub mod Value
 pub mod FromTop
 pub mod NextIn
 pub mod Step
+pub mod Member
+pub mod InOrder
+pub mod Agree
+pub mod Settled
+pub mod SettledOnce

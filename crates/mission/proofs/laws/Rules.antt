@@ -11,6 +11,7 @@ use lib.Dec.{ltb}
 use lib.ListN.{length, take, drop}
 use Rattle.bits.specs.Bit.{oneIf}
 use Rattle.bits.specs.ByteBit.{byteBit}
+use Rattle.below.specs.Among.{member}
 use Rattle.bits.specs.Digits.{AllBelow}
 use Rattle.circuit.specs.Answer.{ReadAs, readOutcome, WrittenAs, writtenOutcome, countOf, bufferAfter}
 use Rattle.circuit.specs.Circuit.{Circuit, latchCount, uncontrollableCount, controllableCount, tooMany}
@@ -30,7 +31,13 @@ use Rattle.text.specs.Written.{textOf}
 use Rattle.text.proofs.laws.Agree.{taken-exactly, written-once}
 use Rattle.text.proofs.laws.Exact.{refused-exactly, taken-circuit}
 use Rattle.text.proofs.laws.Outcome.{taken-is}
-use Rattle.step.specs.Step.{step}
+use Rattle.step.specs.Defined.{definedBy}
+use Rattle.step.specs.NextIn.{nextIn}
+use Rattle.step.specs.Settled.{Settled}
+use Rattle.step.specs.Step.{errorOf, nextOf, step}
+use Rattle.step.specs.Value.{Valuation, literalValue, valuation}
+use Rattle.step.proofs.laws.Settled.{valuation-settled}
+use Rattle.step.proofs.laws.SettledOnce.{settled-agree, error-settled, next-settled}
 use Rattle.game.specs.Alike.{Alike}
 use Rattle.game.specs.Attack.{attack}
 use Rattle.game.specs.CircuitGame.{circuitGame, isRealizable}
@@ -80,6 +87,7 @@ use Rattle.capi.specs.declared.PrintAnswer.{PrintAnswer}
 use Rattle.capi.specs.declared.ReadAnswer.{ReadAnswer}
 use Rattle.capi.specs.declared.StepAnswer.{StepAnswer}
 use Rattle.capi.proofs.laws.Zero.{zero-read, number-read, zero-stepped, number-stepped, zero-certified, number-certified, zero-replies, zero-attacks, zero-kind, number-checked, zero-printed, number-printed}
+use Rattle.mission.proofs.laws.InOrder.{read-in-order}
 
 -- RULE 1. Every input is met.
 --
@@ -152,6 +160,23 @@ text-of-one f g v w e = written-once f g v w e
 
 pub reader-stores : (file : List ℕ) (r : FileRead) → ReadAs (circuitIn file) r → r .answer ≡ Taken → (c : Circuit) × (circuitIn file ≡ taken c) × (meant (r .circuit) ≡ c) × (solvable (meant (r .circuit)) ≡ c)
 reader-stores file r w e = let m = taken-means file r w e in (m .circuit, m .read, m .meant-is, m .solvable-is)
+
+-- What its lines mean in a step, by no order of evaluation (`Settled`): each latch and input has its bit of state, reading or control, and each
+-- gate is true exactly if both of its operands are. There is such a valuation, the one of the step; any two agree on each variable that the
+-- circuit defines; and by any of them the error is the value of the output literal, and the next state the number that the values of the
+-- next-state literals form.
+module _ (file : List ℕ) (c : Circuit) (reads : circuitIn file ≡ taken c) (s r k : ℕ) where
+  pub read-is-settled : Settled c s r k (valuation c s r k)
+  read-is-settled = valuation-settled c (read-in-order file c reads) s r k
+
+  pub settled-is-unique : (a b : Valuation) → Settled c s r k a → Settled c s r k b → (v : ℕ) → member v (definedBy c) ≡ true → a v ≡ b v
+  settled-is-unique a b x y = settled-agree c s r k a b x y (read-in-order file c reads)
+
+  pub error-is-settled : (val : Valuation) → Settled c s r k val → errorOf c s r k ≡ literalValue val (c .output)
+  error-is-settled val x = error-settled c (read-in-order file c reads) s r k val x
+
+  pub next-is-settled : (val : Valuation) → Settled c s r k val → nextOf c s r k ≡ nextIn val (c .latches)
+  next-is-settled val x = next-settled c (read-in-order file c reads) s r k val x
 
 -- "'Realizable' exactly if some set of states holds the reset state and, for each of its states and each reading, some control gives error 0
 -- and a next state in the set."
