@@ -33,11 +33,17 @@ use Rattle.capi.specs.declared.ReadAnswer.{ReadAnswer}
 use Rattle.capi.specs.declared.StepAnswer.{StepAnswer}
 
 module _ (file : List ℕ) (a : ReadAnswer) (is : a ≡ readAnswer (circuitIn file)) where
-  pub zero-read : a .number ≡ 0 → (c : Circuit) × (circuitIn file ≡ taken c) × (a .latches ≡ latchCount c) × (a .readings ≡ uncontrollableCount c) × (a .controls ≡ controllableCount c)
+  pub zero-read :
+      a .number ≡ 0
+      → (c : Circuit) × (circuitIn file ≡ taken c) × (a .latches ≡ latchCount c) × (a .readings ≡ uncontrollableCount c)
+      × (a .controls ≡ controllableCount c)
   unfolding readAnswer
   zero-read zero = by (circuitIn file) refl is
     where
-      by : (o : Outcome Circuit) → circuitIn file ≡ o → a ≡ readAnswer o → (c : Circuit) × (circuitIn file ≡ taken c) × (a .latches ≡ latchCount c) × (a .readings ≡ uncontrollableCount c) × (a .controls ≡ controllableCount c)
+      by :
+          (o : Outcome Circuit) → circuitIn file ≡ o → a ≡ readAnswer o
+          → (c : Circuit) × (circuitIn file ≡ taken c) × (a .latches ≡ latchCount c) × (a .readings ≡ uncontrollableCount c)
+          × (a .controls ≡ controllableCount c)
       by (taken c) e f = (c, e, (λ x. f x .latches), (λ x. f x .readings), (λ x. f x .controls))
       by (refused n p) e f = let q : a .number ≡ n = λ x. f x .number in absurd (omega (arith, q, zero, file-numbered file n p e .0))
 
@@ -54,7 +60,9 @@ module _ (file : List ℕ) (s r k : ℕ) (a : StepAnswer) (is : a ≡ stepAnswer
   unfolding stepAnswer fileStepped
   zero-stepped zero = by (circuitIn file) refl is
     where
-      by : (o : Outcome Circuit) → circuitIn file ≡ o → a ≡ stepAnswer (o >>= λ c. taken (step c s r k)) → (c : Circuit) × (circuitIn file ≡ taken c) × (a .error ≡ (step c s r k) .error) × (a .next ≡ (step c s r k) .next)
+      by :
+          (o : Outcome Circuit) → circuitIn file ≡ o → a ≡ stepAnswer (o >>= λ c. taken (step c s r k))
+          → (c : Circuit) × (circuitIn file ≡ taken c) × (a .error ≡ (step c s r k) .error) × (a .next ≡ (step c s r k) .next)
       by (taken c) e f = (c, e, (λ x. f x .error), (λ x. f x .next))
       by (refused n p) e f = let q : a .number ≡ n = λ x. f x .number in absurd (omega (arith, q, zero, file-numbered file n p e .0))
 
@@ -67,11 +75,17 @@ module _ (file : List ℕ) (s r k : ℕ) (a : StepAnswer) (is : a ≡ stepAnswer
       by (refused n p) e f = e ∙ sym (λ x. refused (f x .number) (f x .place))
 
 module _ (file before : List ℕ) (a : CertifyAnswer) (is : a ≡ certifyAnswer (verdictFor file (circuitIn file) (length before))) where
-  pub zero-certified : (after : List ℕ) → after ≡ bufferAfter (certificateFor file (circuitIn file) (length before)) before → a .number ≡ 0 → (c : Circuit) × (starts : Starts) × (circuitIn file ≡ taken c) × (a .realizable ≡ isRealizable c) × (take (a .bytes) after ≡ certificateOf file c) × (answerOf file (take (a .bytes) after) ≡ taken starts)
+  pub zero-certified :
+      (after : List ℕ) → after ≡ bufferAfter (certificateFor file (circuitIn file) (length before)) before → a .number ≡ 0
+      → (c : Circuit) × (starts : Starts) × (circuitIn file ≡ taken c) × (a .realizable ≡ isRealizable c)
+      × (take (a .bytes) after ≡ certificateOf file c) × (answerOf file (take (a .bytes) after) ≡ taken starts)
   unfolding certifyAnswer
   zero-certified after written zero = by (verdictFor file (circuitIn file) (length before)) refl is
     where
-      by : (o : Outcome Verdict) → verdictFor file (circuitIn file) (length before) ≡ o → a ≡ certifyAnswer o → (c : Circuit) × (starts : Starts) × (circuitIn file ≡ taken c) × (a .realizable ≡ isRealizable c) × (take (a .bytes) after ≡ certificateOf file c) × (answerOf file (take (a .bytes) after) ≡ taken starts)
+      by :
+          (o : Outcome Verdict) → verdictFor file (circuitIn file) (length before) ≡ o → a ≡ certifyAnswer o
+          → (c : Circuit) × (starts : Starts) × (circuitIn file ≡ taken c) × (a .realizable ≡ isRealizable c)
+          × (take (a .bytes) after ≡ certificateOf file c) × (answerOf file (take (a .bytes) after) ≡ taken starts)
       by (taken v) e f =
           let (c, reads) = told-reads file (length before) v e in
           let p : Passing file c after v = told-passes file c before after v reads e written in
@@ -84,7 +98,9 @@ module _ (file before : List ℕ) (a : CertifyAnswer) (is : a ≡ certifyAnswer 
   unfolding certifyAnswer
   number-certified more = by (verdictFor file (circuitIn file) (length before)) refl is
     where
-      by : (o : Outcome Verdict) → verdictFor file (circuitIn file) (length before) ≡ o → a ≡ certifyAnswer o → verdictFor file (circuitIn file) (length before) ≡ refused (a .number) (a .place)
+      by :
+          (o : Outcome Verdict) → verdictFor file (circuitIn file) (length before) ≡ o → a ≡ certifyAnswer o
+          → verdictFor file (circuitIn file) (length before) ≡ refused (a .number) (a .place)
       by (taken v) e f = let q : a .number ≡ 0 = λ x. f x .number in absurd (omega (arith, q, more))
       by (refused n p) e f = e ∙ sym (λ x. refused (f x .number) (f x .place))
 
@@ -93,7 +109,9 @@ module _ (file certificate : List ℕ) (a : CheckAnswer) (is : a ≡ checkAnswer
   unfolding checkAnswer
   zero-replies zero kind = by (answerOf file certificate) refl is
     where
-      by : (o : Outcome Starts) → answerOf file certificate ≡ o → a ≡ checkAnswer o → answerOf file certificate ≡ taken (ofReplies (a .region) (a .table) (a .latches) (a .readings))
+      by :
+          (o : Outcome Starts) → answerOf file certificate ≡ o → a ≡ checkAnswer o
+          → answerOf file certificate ≡ taken (ofReplies (a .region) (a .table) (a .latches) (a .readings))
       by (taken (ofReplies region table L U)) e f = e ∙ sym (λ x. taken (ofReplies (f x .region) (f x .table) (f x .latches) (f x .readings)))
       by (taken (ofAttacks table L U)) e f = let q : a .kind ≡ attackKind = λ x. f x .kind in absurd (omega (arith, q, kind))
       by (refused n p) e f = let q : a .number ≡ n = λ x. f x .number in absurd (omega (arith, q, zero, check-numbered file certificate n p e .0))
@@ -102,7 +120,9 @@ module _ (file certificate : List ℕ) (a : CheckAnswer) (is : a ≡ checkAnswer
   unfolding checkAnswer
   zero-attacks zero kind = by (answerOf file certificate) refl is
     where
-      by : (o : Outcome Starts) → answerOf file certificate ≡ o → a ≡ checkAnswer o → answerOf file certificate ≡ taken (ofAttacks (a .table) (a .latches) (a .readings))
+      by :
+          (o : Outcome Starts) → answerOf file certificate ≡ o → a ≡ checkAnswer o
+          → answerOf file certificate ≡ taken (ofAttacks (a .table) (a .latches) (a .readings))
       by (taken (ofReplies region table L U)) e f = let q : a .kind ≡ replyKind = λ x. f x .kind in absurd (omega (arith, q, kind))
       by (taken (ofAttacks table L U)) e f = e ∙ sym (λ x. taken (ofAttacks (f x .table) (f x .latches) (f x .readings)))
       by (refused n p) e f = let q : a .number ≡ n = λ x. f x .number in absurd (omega (arith, q, zero, check-numbered file certificate n p e .0))
@@ -126,11 +146,15 @@ module _ (file certificate : List ℕ) (a : CheckAnswer) (is : a ≡ checkAnswer
       by (refused n p) e f = e ∙ sym (λ x. refused (f x .number) (f x .place))
 
 module _ (file before : List ℕ) (a : PrintAnswer) (is : a ≡ printAnswer (countOf (filePrinted file (length before)))) where
-  pub zero-printed : (after : List ℕ) → after ≡ bufferAfter (filePrinted file (length before)) before → a .number ≡ 0 → (c : Circuit) × (circuitIn file ≡ taken c) × (circuitIn (take (a .bytes) after) ≡ taken c)
+  pub zero-printed :
+      (after : List ℕ) → after ≡ bufferAfter (filePrinted file (length before)) before → a .number ≡ 0
+      → (c : Circuit) × (circuitIn file ≡ taken c) × (circuitIn (take (a .bytes) after) ≡ taken c)
   unfolding printAnswer writtenOutcome
   zero-printed after written zero = by (countOf (filePrinted file (length before))) refl is
     where
-      by : (o : Outcome ℕ) → countOf (filePrinted file (length before)) ≡ o → a ≡ printAnswer o → (c : Circuit) × (circuitIn file ≡ taken c) × (circuitIn (take (a .bytes) after) ≡ taken c)
+      by :
+          (o : Outcome ℕ) → countOf (filePrinted file (length before)) ≡ o → a ≡ printAnswer o
+          → (c : Circuit) × (circuitIn file ≡ taken c) × (circuitIn (take (a .bytes) after) ≡ taken c)
       by (taken n) e f =
           let (c, reads) = counted-reads file (length before) n e in
           let w : WrittenAs (filePrinted file (length before)) before after (Bytes n) = record { answer = sym e; bytes = written } in
@@ -142,6 +166,8 @@ module _ (file before : List ℕ) (a : PrintAnswer) (is : a ≡ printAnswer (cou
   unfolding printAnswer
   number-printed more = by (countOf (filePrinted file (length before))) refl is
     where
-      by : (o : Outcome ℕ) → countOf (filePrinted file (length before)) ≡ o → a ≡ printAnswer o → countOf (filePrinted file (length before)) ≡ refused (a .number) (a .place)
+      by :
+          (o : Outcome ℕ) → countOf (filePrinted file (length before)) ≡ o → a ≡ printAnswer o
+          → countOf (filePrinted file (length before)) ≡ refused (a .number) (a .place)
       by (taken n) e f = let q : a .number ≡ 0 = λ x. f x .number in absurd (omega (arith, q, more))
       by (refused n p) e f = e ∙ sym (λ x. refused (f x .number) (f x .place))

@@ -26,6 +26,8 @@ file-numbered file number place e = by (refused-exactly base file number place .
     by (fourToEight h b k) = let (low, high) = body-range h (drop 1 (lines file)) number place k in (omega (arith, low), omega (arith, high))
     by (nine n p f e t) = (omega (arith, n), omega (arith, n))
 
-pub writer-numbered : (file : List ℕ) (bytes : Circuit → List ℕ) (room number place : ℕ) → WriterRow file bytes room number place → (1 ≤ number) × (number ≤ noRoom)
+pub writer-numbered :
+    (file : List ℕ) (bytes : Circuit → List ℕ) (room number place : ℕ) → WriterRow file bytes room number place
+    → (1 ≤ number) × (number ≤ noRoom)
 writer-numbered file bytes room number place (ofFile e) = let (low, high) = file-numbered file number place e in (low, omega (arith, high))
 writer-numbered file bytes room number place (ten n p c read h) = (omega (arith, n), omega (arith, n))

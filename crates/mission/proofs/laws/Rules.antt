@@ -1,6 +1,6 @@
 -- The three rules of the mission, sentence by sentence. A promise stands here as it stands at its function: `ReadAs`, `WrittenAs` and
--- `CertifiedAs` say which answer and which buffer a call may leave, `answerOf` what a check answers. What holds for every such answer holds
--- for the code. Each proof cites the law that carries it. Assumes nothing.
+-- `CertifiedAs` say which answer and which buffer a call may leave, `answerOf` what a check answers, `readAnswer` and the like what other
+-- languages are answered. What holds for every such answer holds for the code. Each proof cites the law that carries it. Assumes nothing.
 use Prim.Native.Nat.{ℕ, _*_, _^_, _<_, _≤_}
 use lib.Pow.{pow-mono}
 use mathlib.Core.Bool.{true, false, _&&_}
@@ -111,16 +111,27 @@ pub printer-refuses-exactly : (file before after : List ℕ) (r : Written) (numb
 printer-refuses-exactly file before after r number place w = print-refused-exactly file before after r number place w
 
 -- A refusal's number is one of the table's, and never 0.
-pub reader-numbered : (file : List ℕ) (r : FileRead) (number place : ℕ) → ReadAs (circuitIn file) r → readOutcome (r .answer) ≡ refused number place → (1 ≤ number) × (number ≤ 9)
+pub reader-numbered :
+    (file : List ℕ) (r : FileRead) (number place : ℕ) → ReadAs (circuitIn file) r → readOutcome (r .answer) ≡ refused number place
+    → (1 ≤ number) × (number ≤ 9)
 reader-numbered file r number place w e = file-numbered file number place (reader-refused-exactly file r number place w .0 e)
 
-pub checker-numbered : (file certificate : List ℕ) (a : Checked) (number place : ℕ) → checkedOutcome a ≡ answerOf file certificate → checkedOutcome a ≡ refused number place → (1 ≤ number) × (number ≤ 15)
+pub checker-numbered :
+    (file certificate : List ℕ) (a : Checked) (number place : ℕ) → checkedOutcome a ≡ answerOf file certificate
+    → checkedOutcome a ≡ refused number place
+    → (1 ≤ number) × (number ≤ 15)
 checker-numbered file certificate a number place w e = check-numbered file certificate number place (sym w ∙ e)
 
-pub writer-numbered : (file before after : List ℕ) (r : Certified) (number place : ℕ) → CertifiedAs file (circuitIn file) before after r → certifiedOutcome r ≡ refused number place → (1 ≤ number) × (number ≤ 10)
+pub writer-numbered :
+    (file before after : List ℕ) (r : Certified) (number place : ℕ) → CertifiedAs file (circuitIn file) before after r
+    → certifiedOutcome r ≡ refused number place
+    → (1 ≤ number) × (number ≤ 10)
 writer-numbered file before after r number place w e = row-numbered file (certificateOf file) (length before) number place (certify-refused-exactly file before after r number place w .0 e)
 
-pub printer-numbered : (file before after : List ℕ) (r : Written) (number place : ℕ) → WrittenAs (filePrinted file (length before)) before after r → writtenOutcome r ≡ refused number place → (1 ≤ number) × (number ≤ 10)
+pub printer-numbered :
+    (file before after : List ℕ) (r : Written) (number place : ℕ) → WrittenAs (filePrinted file (length before)) before after r
+    → writtenOutcome r ≡ refused number place
+    → (1 ≤ number) × (number ≤ 10)
 printer-numbered file before after r number place w e = row-numbered file printed (length before) number place (print-refused-exactly file before after r number place w .0 e)
 
 -- "no caller has to check first": no promise has a condition on what the call is given, and each decides its answer and its buffer.
@@ -203,13 +214,17 @@ ranks-right c = ranks-are (circuitGame c) (circuit-proper c)
 
 module _ (file : List ℕ) (c : Circuit) (reads : circuitIn file ≡ taken c) where
   module _ (region table L U : ℕ) (pass : answerOf file (certificateOf file c) ≡ taken (ofReplies region table L U)) where
-    pub region-bit-reported : (i : ℕ) → i < 8 * regionLength L → byteBit (drop region (certificateOf file c)) i ≡ oneIf (ltb i (2 ^ L) && inRegion (circuitGame c) i)
+    pub region-bit-reported :
+        (i : ℕ) → i < 8 * regionLength L
+        → byteBit (drop region (certificateOf file c)) i ≡ oneIf (ltb i (2 ^ L) && inRegion (circuitGame c) i)
     region-bit-reported i h = own-bit file c reads region table L U pass i h
 
     pub region-reported : (s : ℕ) → s < 2 ^ L → holdsState (drop region (certificateOf file c)) L s ≡ inRegion (circuitGame c) s
     region-reported s h = own-region file c reads region table L U pass s h
 
-    pub reply-reported : (s r : ℕ) → s < 2 ^ L → r < 2 ^ U → replyIn (drop region (certificateOf file c)) (drop table (certificateOf file c)) L U s r ≡ reply (circuitGame c) s r
+    pub reply-reported :
+        (s r : ℕ) → s < 2 ^ L → r < 2 ^ U
+        → replyIn (drop region (certificateOf file c)) (drop table (certificateOf file c)) L U s r ≡ reply (circuitGame c) s r
     reply-reported s r h l = own-reply file c reads region table L U pass s h r l
 
   module _ (table L U : ℕ) (pass : answerOf file (certificateOf file c) ≡ taken (ofAttacks table L U)) where
@@ -264,7 +279,12 @@ never-both file one other region table L U table₂ L₂ U₂ e f = never-both-a
 -- "Each circuit that is read gets, given the room, a certificate from our own solver, and that one passes." What is counted stands at the
 -- front of the buffer and is the certificate of the definition, so what rule 2 says of `certificateOf` is said of what was written. 49,298
 -- bytes are room for each.
-pub certificate-passes : (file : List ℕ) (c : Circuit) (before after : List ℕ) (r : Certified) → circuitIn file ≡ taken c → CertifiedAs file (circuitIn file) before after r → length (certificateOf file c) ≤ length before → (v : Verdict) × (starts : Starts) × (certifiedOutcome r ≡ taken v) × (v .realizable ≡ isRealizable c) × (v .count ≡ length (certificateOf file c)) × (take (v .count) after ≡ certificateOf file c) × (answerOf file (take (v .count) after) ≡ taken starts)
+pub certificate-passes :
+    (file : List ℕ) (c : Circuit) (before after : List ℕ) (r : Certified) → circuitIn file ≡ taken c
+    → CertifiedAs file (circuitIn file) before after r → length (certificateOf file c) ≤ length before
+    → (v : Verdict) × (starts : Starts) × (certifiedOutcome r ≡ taken v) × (v .realizable ≡ isRealizable c)
+    × (v .count ≡ length (certificateOf file c)) × (take (v .count) after ≡ certificateOf file c)
+    × (answerOf file (take (v .count) after) ≡ taken starts)
 certificate-passes file c before after r reads w room =
     let (v, told, p) = room-certifies file c before after r reads w room in
     (v, p .starts, told, p .right, p .counted, p .stands, p .passes)
@@ -273,23 +293,31 @@ pub room-enough : (file : List ℕ) (c : Circuit) → circuitIn file ≡ taken c
 room-enough file c reads = longest-certificate file c reads
 
 -- FROM OTHER LANGUAGES. What the functions of `capi` answer are plain numbers: 0 says that nothing was refused, and then the rules above
--- speak of the rest of the answer; any other number is the refusal's, with its place.
+-- speak of the rest of the answer; any other number is the refusal's, and has with its place its row in the table of numbers.
 module _ (file : List ℕ) where
-  pub zero-is-read : (a : ReadAnswer) → a ≡ readAnswer (circuitIn file) → a .number ≡ 0 → (c : Circuit) × (circuitIn file ≡ taken c) × (a .latches ≡ latchCount c) × (a .readings ≡ uncontrollableCount c) × (a .controls ≡ controllableCount c)
+  pub zero-is-read :
+      (a : ReadAnswer) → a ≡ readAnswer (circuitIn file) → a .number ≡ 0
+      → (c : Circuit) × (circuitIn file ≡ taken c) × (a .latches ≡ latchCount c) × (a .readings ≡ uncontrollableCount c)
+      × (a .controls ≡ controllableCount c)
   zero-is-read a is z = zero-read file a is z
 
-  pub read-number-refused : (a : ReadAnswer) → a ≡ readAnswer (circuitIn file) → 1 ≤ a .number → circuitIn file ≡ refused (a .number) (a .place)
-  read-number-refused a is h = number-read file a is h
+  pub read-number-refused : (a : ReadAnswer) → a ≡ readAnswer (circuitIn file) → 1 ≤ a .number → Row base file (a .number) (a .place)
+  unfolding circuitIn
+  read-number-refused a is h = refused-exactly base file (a .number) (a .place) .0 (number-read file a is h)
 
   module _ (s r k : ℕ) (a : StepAnswer) (is : a ≡ stepAnswer (fileStepped file s r k)) where
     pub zero-is-stepped : a .number ≡ 0 → (c : Circuit) × (circuitIn file ≡ taken c) × (a .error ≡ (step c s r k) .error) × (a .next ≡ (step c s r k) .next)
     zero-is-stepped z = zero-stepped file s r k a is z
 
-    pub step-number-refused : 1 ≤ a .number → circuitIn file ≡ refused (a .number) (a .place)
-    step-number-refused h = number-stepped file s r k a is h
+    pub step-number-refused : 1 ≤ a .number → Row base file (a .number) (a .place)
+    unfolding circuitIn
+    step-number-refused h = refused-exactly base file (a .number) (a .place) .0 (number-stepped file s r k a is h)
 
   module _ (before : List ℕ) (a : CertifyAnswer) (is : a ≡ certifyAnswer (verdictFor file (circuitIn file) (length before))) where
-    pub zero-is-certified : (after : List ℕ) → after ≡ bufferAfter (certificateFor file (circuitIn file) (length before)) before → a .number ≡ 0 → (c : Circuit) × (starts : Starts) × (circuitIn file ≡ taken c) × (a .realizable ≡ isRealizable c) × (take (a .bytes) after ≡ certificateOf file c) × (answerOf file (take (a .bytes) after) ≡ taken starts)
+    pub zero-is-certified :
+        (after : List ℕ) → after ≡ bufferAfter (certificateFor file (circuitIn file) (length before)) before → a .number ≡ 0
+        → (c : Circuit) × (starts : Starts) × (circuitIn file ≡ taken c) × (a .realizable ≡ isRealizable c)
+        × (take (a .bytes) after ≡ certificateOf file c) × (answerOf file (take (a .bytes) after) ≡ taken starts)
     zero-is-certified after written z = zero-certified file before a is after written z
 
     pub certify-number-refused : 1 ≤ a .number → WriterRow file (certificateOf file) (length before) (a .number) (a .place)
@@ -309,7 +337,9 @@ module _ (file : List ℕ) where
     check-number-refused h = check-refused-exactly file certificate (a .number) (a .place) .0 (number-checked file certificate a is h)
 
   module _ (before : List ℕ) (a : PrintAnswer) (is : a ≡ printAnswer (countOf (filePrinted file (length before)))) where
-    pub zero-is-printed : (after : List ℕ) → after ≡ bufferAfter (filePrinted file (length before)) before → a .number ≡ 0 → (c : Circuit) × (circuitIn file ≡ taken c) × (circuitIn (take (a .bytes) after) ≡ taken c)
+    pub zero-is-printed :
+        (after : List ℕ) → after ≡ bufferAfter (filePrinted file (length before)) before → a .number ≡ 0
+        → (c : Circuit) × (circuitIn file ≡ taken c) × (circuitIn (take (a .bytes) after) ≡ taken c)
     zero-is-printed after written z = zero-printed file before a is after written z
 
     pub print-number-refused : 1 ≤ a .number → WriterRow file printed (length before) (a .number) (a .place)

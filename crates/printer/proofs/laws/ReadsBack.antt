@@ -39,12 +39,16 @@ counted-reads file room n e =
     (c, reads)
 
 -- a printer is refused exactly with the file's number, or with 10
-pub count-refused-exactly : (file : List ℕ) (room number place : ℕ) → (countOf (filePrinted file room) ≡ refused number place) ↔ WriterRow file printed room number place
+pub count-refused-exactly :
+    (file : List ℕ) (room number place : ℕ)
+    → (countOf (filePrinted file room) ≡ refused number place) ↔ WriterRow file printed room number place
 unfolding filePrinted printedInto countOf
 count-refused-exactly file room number place =
     let told = told-refused (filePrinted file room) length number place in
     let row = no-room-exactly file printed room number place in
     (λ e. row .0 (told .0 e), λ t. told .1 (row .1 t))
 
-pub print-refused-exactly : (file before after : List ℕ) (r : Written) (number place : ℕ) → WrittenAs (filePrinted file (length before)) before after r → (writtenOutcome r ≡ refused number place) ↔ WriterRow file printed (length before) number place
+pub print-refused-exactly :
+    (file before after : List ℕ) (r : Written) (number place : ℕ) → WrittenAs (filePrinted file (length before)) before after r
+    → (writtenOutcome r ≡ refused number place) ↔ WriterRow file printed (length before) number place
 print-refused-exactly file before after r number place w = let row = count-refused-exactly file (length before) number place in (λ e. row .0 (sym (w .answer) ∙ e), λ t. w .answer ∙ row .1 t)

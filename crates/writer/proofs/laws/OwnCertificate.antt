@@ -58,7 +58,9 @@ refused-certifies-nothing file (taken c) before after r number place w e = by (f
     by (refused n p) f g = g
 
 -- it is refused exactly with the file's number, or with 10
-pub verdict-refused-exactly : (file : List ℕ) (room number place : ℕ) → (verdictFor file (circuitIn file) room ≡ refused number place) ↔ WriterRow file (certificateOf file) room number place
+pub verdict-refused-exactly :
+    (file : List ℕ) (room number place : ℕ)
+    → (verdictFor file (circuitIn file) room ≡ refused number place) ↔ WriterRow file (certificateOf file) room number place
 unfolding verdictFor
 verdict-refused-exactly file room number place = let row = no-room-exactly file (certificateOf file) room number place in (λ e. row .0 (by (circuitIn file) .0 e), λ t. by (circuitIn file) .1 (row .1 t))
   where
@@ -66,7 +68,9 @@ verdict-refused-exactly file room number place = let row = no-room-exactly file 
     by (taken c) = told-refused (fitted (certificateOf file c) room) (λ bytes. record { realizable = isRealizable c; count = length bytes }) number place
     by (refused n p) = (λ e. moved n p number place e, λ e. moved n p number place e)
 
-pub certify-refused-exactly : (file before after : List ℕ) (r : Certified) (number place : ℕ) → CertifiedAs file (circuitIn file) before after r → (certifiedOutcome r ≡ refused number place) ↔ WriterRow file (certificateOf file) (length before) number place
+pub certify-refused-exactly :
+    (file before after : List ℕ) (r : Certified) (number place : ℕ) → CertifiedAs file (circuitIn file) before after r
+    → (certifiedOutcome r ≡ refused number place) ↔ WriterRow file (certificateOf file) (length before) number place
 certify-refused-exactly file before after r number place w = let row = verdict-refused-exactly file (length before) number place in (λ e. row .0 (sym (w .answer) ∙ e), λ t. w .answer ∙ row .1 t)
 
 -- a certificate that was written, as it is told: its bytes stand at the front of the buffer, and it passes
@@ -77,7 +81,11 @@ pub record Passing (file : List ℕ) (c : Circuit) (after : List ℕ) (v : Verdi
   pub stands : take (v .count) after ≡ certificateOf file c
   pub passes : answerOf file (take (v .count) after) ≡ taken starts
 
-pub told-passes : (file : List ℕ) (c : Circuit) (before after : List ℕ) (v : Verdict) → circuitIn file ≡ taken c → verdictFor file (circuitIn file) (length before) ≡ taken v → after ≡ bufferAfter (certificateFor file (circuitIn file) (length before)) before → Passing file c after v
+pub told-passes :
+    (file : List ℕ) (c : Circuit) (before after : List ℕ) (v : Verdict) → circuitIn file ≡ taken c
+    → verdictFor file (circuitIn file) (length before) ≡ taken v
+    → after ≡ bufferAfter (certificateFor file (circuitIn file) (length before)) before
+    → Passing file c after v
 told-passes file c before after v reads told written =
     let says : verdictFor file (taken c) (length before) ≡ taken v = subst (λ (o : Outcome Circuit). verdictFor file o (length before) ≡ taken v) reads told in
     let leaves : after ≡ bufferAfter (certificateFor file (taken c) (length before)) before = subst (λ (o : Outcome Circuit). after ≡ bufferAfter (certificateFor file o (length before)) before) reads written in
@@ -91,7 +99,10 @@ told-passes file c before after v reads told written =
     }
 
 -- given the room it is told
-pub room-certifies : (file : List ℕ) (c : Circuit) (before after : List ℕ) (r : Certified) → circuitIn file ≡ taken c → CertifiedAs file (circuitIn file) before after r → length (certificateOf file c) ≤ length before → (v : Verdict) × (certifiedOutcome r ≡ taken v) × Passing file c after v
+pub room-certifies :
+    (file : List ℕ) (c : Circuit) (before after : List ℕ) (r : Certified) → circuitIn file ≡ taken c
+    → CertifiedAs file (circuitIn file) before after r → length (certificateOf file c) ≤ length before
+    → (v : Verdict) × (certifiedOutcome r ≡ taken v) × Passing file c after v
 unfolding verdictFor
 room-certifies file c before after r reads w room =
     let v : Verdict = record { realizable = isRealizable c; count = length (certificateOf file c) } in

@@ -94,7 +94,10 @@ written-passes file c reads = by (isRealizable c) refl
 
 -- where a verdict is told, the certificate stands at the front of the buffer: the verdict is the circuit's, the count is the certificate's
 -- length, and so many bytes of the buffer are the certificate
-pub buffer-holds : (file : List ℕ) (c : Circuit) (before after : List ℕ) (v : Verdict) → verdictFor file (taken c) (length before) ≡ taken v → after ≡ bufferAfter (certificateFor file (taken c) (length before)) before → (v .realizable ≡ isRealizable c) × (v .count ≡ length (certificateOf file c)) × (take (v .count) after ≡ certificateOf file c)
+pub buffer-holds :
+    (file : List ℕ) (c : Circuit) (before after : List ℕ) (v : Verdict) → verdictFor file (taken c) (length before) ≡ taken v
+    → after ≡ bufferAfter (certificateFor file (taken c) (length before)) before
+    → (v .realizable ≡ isRealizable c) × (v .count ≡ length (certificateOf file c)) × (take (v .count) after ≡ certificateOf file c)
 unfolding certificateFor verdictFor bufferAfter
 buffer-holds file c before after v told written = elim (decLe (length certificate) (length before)) [ yes h ↦ fits h | no h ↦ absurd (refused-is-not-taken noRoom 0 v (sym (ap verdict (fitted-refused certificate (length before) (omega arith))) ∙ told)) ]
   where
