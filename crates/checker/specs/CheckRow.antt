@@ -30,6 +30,15 @@ TablesBroken c (attacks circuit table) number place =
 -- the table of numbers, for a file and a certificate
 pub data CheckRow (file certificate : List ℕ) (number place : ℕ) : Type 0 where
   ofFile : circuitIn file ≡ refused number place → CheckRow file certificate number place
-  eleven : number ≡ badShape → place ≡ 0 → (c : Circuit) → circuitIn file ≡ taken c → tablesOf acceptedKinds certificate ≡ none → CheckRow file certificate number place
-  twelve : number ≡ otherCircuit → place ≡ 0 → (c : Circuit) → circuitIn file ≡ taken c → (t : Tables) → tablesOf acceptedKinds certificate ≡ some t → (circuitPart t ≡ file → ⊥) → CheckRow file certificate number place
-  inTables : (c : Circuit) → circuitIn file ≡ taken c → (t : Tables) → tablesOf acceptedKinds certificate ≡ some t → circuitPart t ≡ file → TablesBroken c t number place → CheckRow file certificate number place
+  eleven :
+      number ≡ badShape → place ≡ 0 → (c : Circuit) → circuitIn file ≡ taken c
+      → tablesOf acceptedKinds certificate ≡ none
+      → CheckRow file certificate number place
+  twelve :
+      number ≡ otherCircuit → place ≡ 0 → (c : Circuit) → circuitIn file ≡ taken c
+      → (t : Tables) → tablesOf acceptedKinds certificate ≡ some t → (circuitPart t ≡ file → ⊥)
+      → CheckRow file certificate number place
+  inTables :
+      (c : Circuit) → circuitIn file ≡ taken c
+      → (t : Tables) → tablesOf acceptedKinds certificate ≡ some t → circuitPart t ≡ file → TablesBroken c t number place
+      → CheckRow file certificate number place

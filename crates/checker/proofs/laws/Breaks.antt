@@ -1,11 +1,11 @@
 -- The tests for a broken step rule say what their statements say (01, "The numbers", 15). Assumes nothing.
-use Prim.Native.Nat.{ℕ, _-_, _^_, _<_, _≤_}
+use Prim.Native.Nat.{ℕ, _-_, _^_, _<_}
 use native.Mathlib.Omega.{arith}
 use mathlib.Core.Bool.{Bool, true, false, not, _&&_, true≢false}
 use mathlib.Core.List.{List}
 use mathlib.Core.Logic.{_↔_}
 use mathlib.Core.Path.{_≡_, refl, sym, ap, _∙_}
-use borrow.Author.Tests.{ltb-true, ltb-false, lt-ltb, le-ltb, not-true}
+use borrow.Author.Tests.{ltb-true, ltb-false, lt-ltb, le-ltb}
 use lib.Dec.{ltb}
 use Rattle.bits.proofs.laws.Bytes.{both-true}
 use Rattle.circuit.specs.Circuit.{Circuit, latchCount, uncontrollableCount, controllableCount}
@@ -22,7 +22,7 @@ use Rattle.records.specs.AttackTable.{storedRank, storedAttack}
 use Rattle.records.specs.RegionBits.{holdsState}
 use Rattle.records.specs.ReplyBytes.{storedReply}
 use Rattle.step.specs.Step.{step}
-use Rattle.checker.specs.Breaks.{replyAt, rankAt, attackAt, ReplyBreaks, noControl, errs, leadsOut, RankFalls, AttackBreaks, noReading, escapes}
+use Rattle.checker.specs.Breaks.{replyAt, attackAt, ReplyBreaks, noControl, errs, leadsOut, RankFalls, AttackBreaks, noReading, escapes}
 use Rattle.checker.specs.StoredRegion.{Holds}
 use Rattle.checker.proofs.laws.WrongTables.{test-fails, fails-test, holds-state}
 

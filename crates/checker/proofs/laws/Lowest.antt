@@ -18,11 +18,10 @@ use Rattle.game.specs.Reply.{replyBroken}
 use Rattle.records.specs.AttackTable.{storedRank, storedAttack}
 use Rattle.records.specs.RegionBits.{holdsState}
 use Rattle.records.specs.ReplyBytes.{storedReply}
-use Rattle.checker.specs.Breaks.{ReplyBreaks, AttackBreaks}
 use Rattle.checker.specs.Lowest.{LowestReply, LowestAttack}
 use Rattle.checker.specs.Rules.{brokenReply, brokenAttack}
 use Rattle.checker.proofs.laws.Breaks.{reply-breaks, attack-breaks}
-use Rattle.checker.proofs.laws.WrongTables.{test-fails, fails-test}
+use Rattle.checker.proofs.laws.WrongTables.{fails-test}
 
 -- a test that fails below a place holds at none below it
 not-below : (p : ℕ → Bool) (n i : ℕ) → p i ≡ true → least p n ≤ i

@@ -6,18 +6,18 @@ use mathlib.Core.Bool.{Bool, true, false, not, _&&_, _||_, true≢false}
 use mathlib.Core.List.{List}
 use mathlib.Core.Logic.{_↔_}
 use mathlib.Core.Path.{_≡_, refl, sym, ap, _∙_}
-use borrow.Author.Tests.{eqb-true, eqb-false, eq-eqb, ne-eqb, leb-true, le-leb, not-true, not-false}
+use borrow.Author.Tests.{eqb-true, eqb-false, eq-eqb, ne-eqb, leb-true, le-leb, not-true}
 use lib.Dec.{eqb, leb}
 use lib.ListN.{length}
 use lib.Pow.{pow-pos}
-use Rattle.below.specs.Least.{least, any, every}
+use Rattle.below.specs.Least.{least}
 use Rattle.below.proofs.laws.Least.{any-of, any-least, any-holds, every-at, every-of}
 use Rattle.bits.specs.ByteBit.{byteBit}
 use Rattle.bits.proofs.laws.Bytes.{both-true}
 use Rattle.circuit.specs.Circuit.{Circuit, latchCount, uncontrollableCount}
 use Rattle.circuit.specs.Reset.{isReset}
 use Rattle.game.specs.CircuitGame.{circuitGame}
-use Rattle.records.specs.AttackTable.{attackLength, storedRank}
+use Rattle.records.specs.AttackTable.{storedRank}
 use Rattle.records.specs.RegionBits.{regionLength, holdsState, unusedBitSet}
 use Rattle.records.specs.ReplyBytes.{replyLength}
 use Rattle.checker.specs.Rules.{badReplyTables, badAttackTable, resetOutside, resetUnranked}
