@@ -11,6 +11,9 @@ pub mod Sizes
 pub mod Shaped
 pub mod Counted
 pub mod Answer
+pub mod WrongTables
+pub mod Breaks
+pub mod Lowest
 pub mod Exact
 pub mod Front
 pub mod Numbered

@@ -5,4 +5,9 @@ pub mod Answer
 pub mod CircuitChecked
 pub mod Counted
 pub mod Faults
+pub mod StoredRegion
+pub mod WrongTables
+pub mod WrongReset
+pub mod Breaks
+pub mod Lowest
 pub mod CheckRow

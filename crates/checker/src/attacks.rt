@@ -5,6 +5,7 @@ use circuit::Refusal;
 use records::stored::stored_attack;
 use records::stored::stored_rank;
 use rules::defeats;
+use step::Reading;
 ghost use mathlib.Core.Path.{_≡_};
 ghost use Rattle.circuit.specs.Stored.{lent};
 ghost use Rattle.checker.specs.Answer.{ofAttacks, checkedOutcome};
@@ -156,6 +157,6 @@ fn attack_broken<'a>(
         power(controls),
         rank - 1,
         state,
-        attack,
+        Reading(attack),
     )
 }

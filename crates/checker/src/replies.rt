@@ -6,6 +6,8 @@ use circuit::Refusal;
 use records::stored::holds_state;
 use records::stored::stored_reply;
 use rules::keeps_region;
+use step::Control;
+use step::Reading;
 ghost use mathlib.Core.Path.{_≡_};
 ghost use Rattle.circuit.specs.Stored.{lent};
 ghost use Prim.Native.Nat.{_*_, _^_, _≤_};
@@ -202,7 +204,7 @@ fn reply_broken<'a>(
         region,
         latches,
         state,
-        reading,
-        reply,
+        Reading(reading),
+        Control(reply),
     )
 }

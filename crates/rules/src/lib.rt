@@ -32,10 +32,10 @@ pub fn keeps_region<'a>(
     region: &'a [u8],
     latches: usize,
     state: u16,
-    reading: u8,
-    control: u8,
+    reading: Reading,
+    control: Control,
 ) -> bool
-    ensures { λ r. ⌜ r ≡ keeps (circuitGame (lent 0 (now (input .entry)) (now (controllable .entry)) (now (latch .entry)) (now (next .entry)) output (now (gate .entry)) (now (left .entry)) (now (right .entry)))) (holdsState (now (region .entry)) latches) state reading control ⌝ }
+    ensures { λ r. ⌜ r ≡ keeps (circuitGame (lent 0 (now (input .entry)) (now (controllable .entry)) (now (latch .entry)) (now (next .entry)) output (now (gate .entry)) (now (left .entry)) (now (right .entry)))) (holdsState (now (region .entry)) latches) state (reading .0) (control .0) ⌝ }
 {
     let t = step::step_lent(
         input,
@@ -47,8 +47,8 @@ pub fn keeps_region<'a>(
         left,
         right,
         state,
-        Reading(reading),
-        Control(control),
+        reading,
+        control,
     );
     if t.error {
         false
@@ -73,9 +73,9 @@ pub fn defeats<'a>(
     controls: usize,
     bound: u16,
     state: u16,
-    reading: u8,
+    reading: Reading,
 ) -> bool
-    ensures { λ r. ⌜ r ≡ not (any (keeps (circuitGame (lent 0 (now (input .entry)) (now (controllable .entry)) (now (latch .entry)) (now (next .entry)) output (now (gate .entry)) (now (left .entry)) (now (right .entry)))) (notRanked (storedRank (now (table .entry)) latches) bound) state reading) (min controls (2 ^ base .controllable))) ⌝ }
+    ensures { λ r. ⌜ r ≡ not (any (keeps (circuitGame (lent 0 (now (input .entry)) (now (controllable .entry)) (now (latch .entry)) (now (next .entry)) output (now (gate .entry)) (now (left .entry)) (now (right .entry)))) (notRanked (storedRank (now (table .entry)) latches) bound) state (reading .0)) (min controls (2 ^ base .controllable))) ⌝ }
 {
     let n = below::fewer(controls, Circuit::CONTROLS);
     let mut block = 0;
@@ -90,7 +90,7 @@ pub fn defeats<'a>(
             left,
             right,
             state,
-            Reading(reading),
+            reading,
             block,
         );
         let words = t.next;

@@ -15,8 +15,9 @@ pub mod Complete
 pub mod Stages
 pub mod Sound
 pub mod Agree
-pub mod Fault
-pub mod Broken
+pub mod LineFault
+pub mod FirstFault
+pub mod NoSymbol
 pub mod BodyBroken
 pub mod FaultLine
 pub mod Exact

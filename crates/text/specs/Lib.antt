@@ -14,8 +14,13 @@ pub mod WellFormed
 pub mod Printed
 pub mod Headed
 pub mod Within
-pub mod Broken
+pub mod Kind
+pub mod LineIs
+pub mod LineFault
+pub mod FirstFault
 pub mod Unknown
+pub mod SymbolRight
 pub mod NoSymbol
 pub mod BodyBroken
+pub mod Crowded
 pub mod Row

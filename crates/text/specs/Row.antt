@@ -1,14 +1,13 @@
 -- The table of numbers, 1 to 9, as a statement (01, "The numbers"): a number with its place, and exactly when they are given, in the table's
 -- order: 1, 2, 3; then 4 to 8 by the lines; then 9. Assumes nothing.
 use Prim.Native.Nat.{ℕ, _<_, _≤_}
-use mathlib.Core.Bool.{true}
 use mathlib.Core.List.{List}
 use mathlib.Core.Path.{_≡_}
 use lib.ListN.{length, drop}
-use Rattle.circuit.specs.Circuit.{tooMany}
 use Rattle.circuit.specs.Limits.{Limits}
 use Rattle.circuit.specs.Outcome.{taken}
 use Rattle.text.specs.BodyBroken.{BodyBroken}
+use Rattle.text.specs.Crowded.{Crowded}
 use Rattle.text.specs.Headed.{Headed, Headless}
 use Rattle.text.specs.Header.{Header}
 use Rattle.text.specs.Line.{lines}
@@ -37,5 +36,5 @@ pub data Row (limits : Limits) (bytes : List ℕ) (number place : ℕ) : Type 0 
       → Row limits bytes number place
   nine :
       number ≡ tooManyInputs → place ≡ 0
-      → (f : TextFile) → fileRead limits bytes ≡ taken f → tooMany limits (circuitOf f) ≡ true
+      → (f : TextFile) → fileRead limits bytes ≡ taken f → Crowded limits (circuitOf f)
       → Row limits bytes number place

@@ -1,24 +1,31 @@
 -- Refusals of the check are exact (01, "The numbers"): the file's numbers come first, then each of 11 to 15 is given exactly when the table
 -- says so, in its order and at its place. Assumes nothing.
-use Prim.Native.Nat.{ℕ}
+use Prim.Native.Nat.{ℕ, _*_}
 use mathlib.Core.Bool.{Bool, true, false, true≢false}
 use mathlib.Core.List.{List}
 use mathlib.Core.Logic.{_↔_}
 use mathlib.Core.Option.{Option, none, some}
 use mathlib.Core.Path.{_≡_, refl, sym, ap, _∙_, subst}
+use lib.Dec.{ltb}
 use Rattle.bits.specs.Bytes.{sameBytes}
 use Rattle.bits.proofs.laws.Bytes.{same-bytes-equal, same-bytes-refl}
 use Rattle.circuit.specs.Circuit.{Circuit}
 use Rattle.circuit.specs.Outcome.{Outcome, taken, refused, _>>=_, _>>_, refuseIf}
 use Rattle.file.specs.CircuitIn.{circuitIn}
+use Rattle.game.specs.CircuitGame.{circuitGame}
 use Rattle.records.specs.Tables.{Tables, replies, attacks, tablesOf, circuitPart}
 use Rattle.checker.specs.Answer.{Starts, startsOf, answerOf}
 use Rattle.checker.specs.Check.{acceptedKinds, tablesChecked}
 use Rattle.checker.specs.CircuitChecked.{circuitChecked, repliesJudged, attacksJudged}
 use Rattle.checker.specs.CheckRow.{Judged, thirteen, fourteen, fifteen, TablesBroken, CheckRow, ofFile, eleven, twelve, inTables}
+use Rattle.checker.specs.Lowest.{LowestReply, LowestAttack}
 use Rattle.checker.specs.Numbers.{badTable, badReset, brokenStep}
 use Rattle.checker.specs.Rules.{badReplyTables, badAttackTable, resetOutside, resetUnranked, brokenReply, brokenAttack}
+use Rattle.checker.specs.WrongReset.{ResetNotHeld, ResetOfRankZero}
+use Rattle.checker.specs.WrongTables.{WrongReplies, WrongAttacks}
+use Rattle.checker.proofs.laws.Lowest.{lowest-reply, reply-lowest, lowest-attack, attack-lowest}
 use Rattle.checker.proofs.laws.Stages.{answer-is-checked, misshapen-refused, other-refused, same-goes-on, replies-judged, attacks-judged}
+use Rattle.checker.proofs.laws.WrongTables.{test-fails, fails-test, replies-wrong, attacks-wrong, reset-not-held, reset-of-rank-zero}
 
 -- the three tests, as code and definition take them
 abbrev tests : (bad reset broken : Bool) (lowest : ℕ) → Starts → Outcome Starts
@@ -33,29 +40,45 @@ abbrev Said : (ℕ → ℕ → Type 0) → Outcome Starts → Type 0
 Said R (taken starts) = Unit {0}
 Said R (refused number place) = R number place
 
-tests-say : (bad reset broken : Bool) (lowest : ℕ) (starts : Starts) → Said (Judged bad reset broken lowest) (tests bad reset broken lowest starts)
-unfolding refuseIf
-tests-say true reset broken lowest starts = thirteen refl refl refl
-tests-say false true broken lowest starts = fourteen refl refl refl refl
-tests-say false false true lowest starts = fifteen refl refl refl refl refl
-tests-say false false false lowest starts = tt
+-- each test says its statement, and the last finds the lowest place
+record Says (bad reset broken : Bool) (lowest : ℕ) (Wrong Reset : Type 0) (Lowest : ℕ → Type 0) : Type 0 where
+  wrong : (bad ≡ true) ↔ Wrong
+  badly : (reset ≡ true) ↔ Reset
+  finds : broken ≡ true → Lowest lowest
+  found : (place : ℕ) → Lowest place → (broken ≡ true) × (lowest ≡ place)
 
-judged-refuses : (bad reset broken : Bool) (lowest number place : ℕ) (starts : Starts) → Judged bad reset broken lowest number place → tests bad reset broken lowest starts ≡ refused number place
-unfolding refuseIf
-judged-refuses bad reset broken lowest number place starts (thirteen n p a) = rw (n, p, a)
-judged-refuses bad reset broken lowest number place starts (fourteen n p a b) = rw (n, p, a, b)
-judged-refuses bad reset broken lowest number place starts (fifteen n p a b d) = rw (n, p, a, b, d)
+module _ (lowest : ℕ) (Wrong Reset : Type 0) (Lowest : ℕ → Type 0) (starts : Starts) where
+  tests-say : (bad reset broken : Bool) → Says bad reset broken lowest Wrong Reset Lowest → Said (Judged Wrong Reset Lowest) (tests bad reset broken lowest starts)
+  unfolding refuseIf
+  tests-say true reset broken w = thirteen refl refl (w .wrong .0 refl)
+  tests-say false true broken w = fourteen refl refl (test-fails false (w .wrong) refl) (w .badly .0 refl)
+  tests-say false false true w = fifteen refl (test-fails false (w .wrong) refl) (test-fails false (w .badly) refl) (w .finds refl)
+  tests-say false false false w = tt
+
+  judged-refuses : (bad reset broken : Bool) (number place : ℕ) → Says bad reset broken lowest Wrong Reset Lowest → Judged Wrong Reset Lowest number place → tests bad reset broken lowest starts ≡ refused number place
+  unfolding refuseIf
+  judged-refuses bad reset broken number place w (thirteen n p a) = rw (n, p, w .wrong .1 a)
+  judged-refuses bad reset broken number place w (fourteen n p a b) = rw (n, p, fails-test bad (w .wrong) a, w .badly .1 b)
+  judged-refuses bad reset broken number place w (fifteen n a b l) =
+      let (is, at) = w .found place l in
+      rw (n, fails-test bad (w .wrong) a, fails-test reset (w .badly) b, is, at)
+
+replies-say : (c : Circuit) (region table : List ℕ) → Says (badReplyTables c region table) (resetOutside c region) (ltb (brokenReply c region table) (circuitGame c .states * circuitGame c .readings)) (brokenReply c region table) (WrongReplies c region table) (ResetNotHeld region) (LowestReply c region table)
+replies-say c region table = record { wrong = replies-wrong c region table; badly = reset-not-held c region; finds = lowest-reply c region table; found = reply-lowest c region table }
+
+attacks-say : (c : Circuit) (table : List ℕ) → Says (badAttackTable c table) (resetUnranked c table) (ltb (brokenAttack c table) (circuitGame c .states)) (brokenAttack c table) (WrongAttacks c table) (ResetOfRankZero c table) (LowestAttack c table)
+attacks-say c table = record { wrong = attacks-wrong c table; badly = reset-of-rank-zero c table; finds = lowest-attack c table; found = attack-lowest c table }
 
 -- and of tables
 tables-say : (c : Circuit) (t : Tables) → Said (TablesBroken c t) (tablesChecked c t >>= λ u. taken (startsOf c u))
 unfolding repliesJudged attacksJudged
-tables-say c (replies circuit region kind table) = subst (Said (TablesBroken c (replies circuit region kind table))) (sym (replies-judged c circuit region kind table)) (tests-say (badReplyTables c region table) (resetOutside c region) _ (brokenReply c region table) _)
-tables-say c (attacks circuit table) = subst (Said (TablesBroken c (attacks circuit table))) (sym (attacks-judged c circuit table)) (tests-say (badAttackTable c table) (resetUnranked c table) _ (brokenAttack c table) _)
+tables-say c (replies circuit region kind table) = subst (Said (TablesBroken c (replies circuit region kind table))) (sym (replies-judged c circuit region kind table)) (tests-say (brokenReply c region table) _ _ _ _ (badReplyTables c region table) (resetOutside c region) _ (replies-say c region table))
+tables-say c (attacks circuit table) = subst (Said (TablesBroken c (attacks circuit table))) (sym (attacks-judged c circuit table)) (tests-say (brokenAttack c table) _ _ _ _ (badAttackTable c table) (resetUnranked c table) _ (attacks-say c table))
 
 tables-refuse : (c : Circuit) (t : Tables) (number place : ℕ) → TablesBroken c t number place → (tablesChecked c t >>= λ u. taken (startsOf c u)) ≡ refused number place
 unfolding repliesJudged attacksJudged
-tables-refuse c (replies circuit region kind table) number place w = replies-judged c circuit region kind table ∙ judged-refuses (badReplyTables c region table) (resetOutside c region) _ (brokenReply c region table) number place _ w
-tables-refuse c (attacks circuit table) number place w = attacks-judged c circuit table ∙ judged-refuses (badAttackTable c table) (resetUnranked c table) _ (brokenAttack c table) number place _ w
+tables-refuse c (replies circuit region kind table) number place w = replies-judged c circuit region kind table ∙ judged-refuses (brokenReply c region table) _ _ _ _ (badReplyTables c region table) (resetOutside c region) _ number place (replies-say c region table) w
+tables-refuse c (attacks circuit table) number place w = attacks-judged c circuit table ∙ judged-refuses (brokenAttack c table) _ _ _ _ (badAttackTable c table) (resetUnranked c table) _ number place (attacks-say c table) w
 
 module _ (file certificate : List ℕ) where
   -- behind a file that is read

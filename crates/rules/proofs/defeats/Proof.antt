@@ -11,7 +11,7 @@ use Rattle.rules.proofs.defeats.Statement.{statement}
 use Rattle.rules.proofs.defeats.Tie as tie
 
 abbrev Inv-loop : tie.InvT-loop
-Inv-loop input controllable latch next output gate left right table latches controls bound state reading n block₀ block = Tried (lent 0 input controllable latch next output gate left right) (notRanked (storedRank table latches) bound) state reading n block
+Inv-loop input controllable latch next output gate left right table latches controls bound state reading n block₀ block = Tried (lent 0 input controllable latch next output gate left right) (notRanked (storedRank table latches) bound) state (reading .0) n block
 
 abbrev μ-loop : tie.MeasureT-loop
 μ-loop input controllable latch next output gate left right table latches controls bound state reading n block₀ block = n - block
@@ -50,7 +50,7 @@ returns c =
     let l = b .before .before in
     let n = l .before in
     let a = n .before .before .before .before .before .before .before .before .before .args in
-    tried-kept (lent 0 (a .input .now) (a .controllable .now) (a .latch .now) (a .next .now) (a .output) (a .gate .now) (a .left .now) (a .right .now)) (notRanked (storedRank (a .table .now) (a .latches)) (a .bound)) (a .state) (a .reading) (n .fewer .result) (l .loop .block) (e .fewer2 .result) (b .step-block .result) (b .step-block .ensures) (e .fewer2 .ensures) (b .before .loop-test .taken) (min (a .controls) (2 ^ base .controllable)) (n .fewer .ensures) (sym (c .before .some-keeps .ensures) ∙ c .if1 .taken)
+    tried-kept (lent 0 (a .input .now) (a .controllable .now) (a .latch .now) (a .next .now) (a .output) (a .gate .now) (a .left .now) (a .right .now)) (notRanked (storedRank (a .table .now) (a .latches)) (a .bound)) (a .state) (a .reading .0) (n .fewer .result) (l .loop .block) (e .fewer2 .result) (b .step-block .result) (b .step-block .ensures) (e .fewer2 .ensures) (b .before .loop-test .taken) (min (a .controls) (2 ^ base .controllable)) (n .fewer .ensures) (sym (c .before .some-keeps .ensures) ∙ c .if1 .taken)
 
 add-block : tie.Need-add-block Inv-loop μ-loop
 add-block c = search needs
@@ -65,14 +65,14 @@ loop-again c =
     let l = b .before .before in
     let n = l .before in
     let a = n .before .before .before .before .before .before .before .before .before .args in
-    tried-next (lent 0 (a .input .now) (a .controllable .now) (a .latch .now) (a .next .now) (a .output) (a .gate .now) (a .left .now) (a .right .now)) (notRanked (storedRank (a .table .now) (a .latches)) (a .bound)) (a .state) (a .reading) (n .fewer .result) (l .loop .block) (e .fewer2 .result) (b .step-block .result) (b .step-block .ensures) (e .fewer2 .ensures) (b .before .loop-test .taken) (l .loop .inv) (sym (c .before .some-keeps .ensures) ∙ c .if1 .left)
+    tried-next (lent 0 (a .input .now) (a .controllable .now) (a .latch .now) (a .next .now) (a .output) (a .gate .now) (a .left .now) (a .right .now)) (notRanked (storedRank (a .table .now) (a .latches)) (a .bound)) (a .state) (a .reading .0) (n .fewer .result) (l .loop .block) (e .fewer2 .result) (b .step-block .result) (b .step-block .ensures) (e .fewer2 .ensures) (b .before .loop-test .taken) (l .loop .inv) (sym (c .before .some-keeps .ensures) ∙ c .if1 .left)
 
 returns-2 : tie.Need-returns-2 Inv-loop μ-loop
 returns-2 c =
     let l = c .before in
     let n = l .before in
     let a = n .before .before .before .before .before .before .before .before .before .args in
-    tried-end (lent 0 (a .input .now) (a .controllable .now) (a .latch .now) (a .next .now) (a .output) (a .gate .now) (a .left .now) (a .right .now)) (notRanked (storedRank (a .table .now) (a .latches)) (a .bound)) (a .state) (a .reading) (n .fewer .result) (l .loop .block) (min (a .controls) (2 ^ base .controllable)) (l .loop .inv) (c .loop-test .left) (n .fewer .ensures)
+    tried-end (lent 0 (a .input .now) (a .controllable .now) (a .latch .now) (a .next .now) (a .output) (a .gate .now) (a .left .now) (a .right .now)) (notRanked (storedRank (a .table .now) (a .latches)) (a .bound)) (a .state) (a .reading .0) (n .fewer .result) (l .loop .block) (min (a .controls) (2 ^ base .controllable)) (l .loop .inv) (c .loop-test .left) (n .fewer .ensures)
 
 pub defeats-spec : {M : Type 1} → statement M
 defeats-spec =

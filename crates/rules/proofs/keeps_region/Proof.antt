@@ -19,13 +19,13 @@ returns : tie.Need-returns
 returns c =
     let s = c .before in
     let a = c .before .before .before .before .before .before .before .before .before .before .args in
-    error-keeps (lent 0 (a .input .now) (a .controllable .now) (a .latch .now) (a .next .now) (a .output) (a .gate .now) (a .left .now) (a .right .now)) (holdsState (a .region .now) (a .latches)) (a .state) (a .reading) (a .control) (s .step-lent .result) (s .step-lent .ensures) (c .if1 .taken)
+    error-keeps (lent 0 (a .input .now) (a .controllable .now) (a .latch .now) (a .next .now) (a .output) (a .gate .now) (a .left .now) (a .right .now)) (holdsState (a .region .now) (a .latches)) (a .state) (a .reading .0) (a .control .0) (s .step-lent .result) (s .step-lent .ensures) (c .if1 .taken)
 
 returns-2 : tie.Need-returns-2
 returns-2 c =
     let s = c .before .before .before in
     let a = c .before .before .before .before .before .before .before .before .before .before .before .before .args in
-    next-keeps (lent 0 (a .input .now) (a .controllable .now) (a .latch .now) (a .next .now) (a .output) (a .gate .now) (a .left .now) (a .right .now)) (holdsState (a .region .now) (a .latches)) (a .state) (a .reading) (a .control) (s .step-lent .result) (s .step-lent .ensures) (c .holds-state .result) (c .before .before .if1 .left) (c .holds-state .ensures)
+    next-keeps (lent 0 (a .input .now) (a .controllable .now) (a .latch .now) (a .next .now) (a .output) (a .gate .now) (a .left .now) (a .right .now)) (holdsState (a .region .now) (a .latches)) (a .state) (a .reading .0) (a .control .0) (s .step-lent .result) (s .step-lent .ensures) (c .holds-state .result) (c .before .before .if1 .left) (c .holds-state .ensures)
 
 pub keeps-region-spec : {M : Type 1} → statement M
 keeps-region-spec =

@@ -1,84 +1,334 @@
 -- The lines behind the header are refused exactly at the first fault in the order of document 01 ("The numbers": lines in file order; then 7 for
--- latches and the output; then symbol lines): everything before that fault is taken. Assumes nothing.
-use Prim.Native.Nat.{ℕ, suc, _+_, _≤_}
+-- latches and the output; then symbol lines): everything before that fault is right. Assumes nothing.
+use Prim.Native.Nat.{ℕ, zero, suc, _+_, _≤_}
 use native.Mathlib.Omega.{arith}
-use mathlib.Core.List.{List, []}
+use mathlib.Core.List.{List, [], _∷_, _++_, map, append-assoc}
 use mathlib.Core.Logic.{inl, inr}
-use mathlib.Core.Path.{_≡_, refl}
-use lib.ListN.{getD}
+use mathlib.Core.Path.{_≡_, refl, sym, ap, ap₂, _∙_, subst}
+use lib.ListN.{length, getD, take, drop, replicate, length-append, length-replicate}
+use lib.Seq.{drop-drop}
 use Rattle.circuit.specs.Outcome.{taken, refused}
-use Rattle.text.specs.BodyBroken.{BodyBroken, inInputs, inLatches, inOutput, inGates, inUse, inSymbols}
-use Rattle.text.specs.Broken.{Broken}
+use Rattle.text.specs.BodyBroken.{BodyBroken, inLines, inUse, inSymbols}
+use Rattle.text.specs.FirstFault.{AllRight, FirstFault}
 use Rattle.text.specs.Header.{Header}
+use Rattle.text.specs.InList.{All}
+use Rattle.text.specs.Kind.{Kind, anInput, aLatch, theOutput, aGate, kinds, definedByAll}
+use Rattle.text.specs.NoSymbol.{NoSymbol}
 use Rattle.text.specs.Read.{linesRead}
-use Rattle.text.specs.Rules.{Rule, inputRule, latchRule, outputRule, gateRule}
-use Rattle.text.specs.Section.{Body}
-use Rattle.text.specs.Stages.{inputSection, latchSection, outputSection, gateSection, lateOf, lateStage, symbolStage}
-use Rattle.text.proofs.laws.Broken.{section-broken, broken-section, used-unknown, unknown-used, symbols-broken, broken-symbols}
-use Rattle.text.proofs.laws.Fault.{Fault, FiveToSeven, judged-fault, fault-range, input-numbers, latch-numbers, output-numbers, gate-numbers}
+use Rattle.text.specs.Section.{Body, onward}
+use Rattle.text.specs.Stages.{inputSection, latchSection, outputSection, gateSection, lateStage, symbolStage}
+use Rattle.text.specs.Unknown.{lateLiterals, Unknown}
+use Rattle.text.specs.WellFormed.{Known}
+use Rattle.text.proofs.laws.FirstFault.{body, section-first, first-section, section-right, right-section, right-length, first-front, first-behind, Where, front, behind, where-first, right-join, Split, right-split, defined-join, first-range}
+use Rattle.text.proofs.laws.NoSymbol.{symbols-broken, broken-symbols}
 use Rattle.text.proofs.laws.Outcome.{taken-is-not-refused, bind-refused, then-refused}
 use Rattle.text.proofs.laws.Stages.{fileOf, behindLate, behindGates, behindOutput, behindLatches, behindInputs}
+use Rattle.text.proofs.laws.Used.{used-known, known-used, used-unknown, unknown-used}
 
-late-broken : (h : Header) (rest : List (List ℕ)) (number place : ℕ) (inputs latches output gates : Body) → inputSection h rest ≡ taken inputs → latchSection h inputs ≡ taken latches → outputSection h latches ≡ taken output → gateSection h output ≡ taken gates → behindGates h inputs latches output gates ≡ refused number place → BodyBroken h rest number place
-late-broken h rest number place inputs latches output gates a b c d e =
-    elim (then-refused (lateStage h latches output gates) (behindLate h inputs latches output gates) number place e) [
-      | inl r ↦ inUse inputs latches output gates a b c d (used-unknown (gates .defined) (2 + h .inputs) (lateOf latches output) number place r)
-      | inr u ↦
-          elim (bind-refused (symbolStage h gates) (λ behind. taken (fileOf h inputs latches output gates behind)) number place (u .2)) [
-            | inl r ↦ inSymbols inputs latches output gates a b c d (u .1) (symbols-broken h (3 + h .inputs + h .latches + h .gates) [] (gates .rest) number place r)
-            | inr s ↦ absurd (taken-is-not-refused number place (fileOf h inputs latches output gates (s .0)) (s .2))
-          ]
-    ]
+module _ {A : Type 0} where
+  drop-front : (n : ℕ) (xs ys : List A) → length xs ≡ n → drop n (xs ++ ys) ≡ ys
+  drop-front zero [] ys e = refl
+  drop-front zero (x ∷ xs) ys e = absurd (omega (arith, e))
+  drop-front (suc n) [] ys e = absurd (omega (arith, e))
+  drop-front (suc n) (x ∷ xs) ys e = drop-front n xs ys (omega (arith, e))
 
-output-broken : (h : Header) (rest : List (List ℕ)) (number place : ℕ) (inputs latches : Body) → inputSection h rest ≡ taken inputs → latchSection h inputs ≡ taken latches → behindLatches h inputs latches ≡ refused number place → BodyBroken h rest number place
-output-broken h rest number place inputs latches a b e =
-    elim (bind-refused (outputSection h latches) (behindOutput h inputs latches) number place e) [
-      | inl r ↦ inOutput inputs latches a b (section-broken _ _ _ _ number place r)
-      | inr c ↦
-          elim (bind-refused (gateSection h (c .0)) (behindGates h inputs latches (c .0)) number place (c .2)) [
-            | inl r ↦ inGates inputs latches (c .0) a b (c .1) (section-broken _ _ _ _ number place r)
-            | inr d ↦ late-broken h rest number place inputs latches (c .0) (d .0) a b (c .1) (d .1) (d .2)
-          ]
-    ]
+  take-front : (n : ℕ) (xs ys : List A) → length xs ≡ n → take n (xs ++ ys) ≡ xs
+  take-front zero [] ys e = refl
+  take-front zero (x ∷ xs) ys e = absurd (omega (arith, e))
+  take-front (suc n) [] ys e = absurd (omega (arith, e))
+  take-front (suc n) (x ∷ xs) ys e = ap {B = List A} (λ r. x ∷ r) (take-front n xs ys (omega (arith, e)))
 
-latches-broken : (h : Header) (rest : List (List ℕ)) (number place : ℕ) (inputs : Body) → inputSection h rest ≡ taken inputs → behindInputs h inputs ≡ refused number place → BodyBroken h rest number place
-latches-broken h rest number place inputs a e =
-    elim (bind-refused (latchSection h inputs) (behindLatches h inputs) number place e) [
-      | inl r ↦ inLatches inputs a (section-broken _ _ _ _ number place r)
-      | inr b ↦ output-broken h rest number place inputs (b .0) a (b .1) (b .2)
-    ]
+module _ (h : Header) (rest : List (List ℕ)) where
+  -- the kinds behind the output, the latches and the inputs
+  abbrev gateKinds : List Kind
+  gateKinds = replicate (h .gates) aGate
 
-pub lines-broken : (h : Header) (rest : List (List ℕ)) (number place : ℕ) → linesRead h rest ≡ refused number place → BodyBroken h rest number place
-unfolding linesRead
-lines-broken h rest number place e =
-    elim (bind-refused (inputSection h rest) (behindInputs h) number place e) [
-      | inl r ↦ inInputs (section-broken _ _ _ _ number place r)
-      | inr a ↦ latches-broken h rest number place (a .0) (a .1) (a .2)
-    ]
+  abbrev outputKinds : List Kind
+  outputKinds = theOutput ∷ gateKinds
 
-pub broken-lines : (h : Header) (rest : List (List ℕ)) (number place : ℕ) → BodyBroken h rest number place → linesRead h rest ≡ refused number place
-unfolding linesRead
-broken-lines h rest number place (inInputs k) = rw (broken-section _ _ _ _ number place k)
-broken-lines h rest number place (inLatches inputs a k) = rw (a, broken-section _ _ _ _ number place k)
-broken-lines h rest number place (inOutput inputs latches a b k) = rw (a, b, broken-section _ _ _ _ number place k)
-broken-lines h rest number place (inGates inputs latches output a b c k) = rw (a, b, c, broken-section _ _ _ _ number place k)
-broken-lines h rest number place (inUse inputs latches output gates a b c d k) = rw (a, b, c, d, unknown-used _ _ _ number place k)
-broken-lines h rest number place (inSymbols inputs latches output gates a b c d u k) = rw (a, b, c, d, u, broken-symbols _ _ _ _ number place k)
+  abbrev latchKinds : List Kind
+  latchKinds = replicate (h .latches) aLatch ++ outputKinds
 
--- what is wrong with the line at fault
-pub broken-fault : (rule : Rule) (c n start : ℕ) (b : Body) (number place : ℕ) → rule .count ≡ suc c → (k : Broken rule n start b number place) → Fault rule (k .before .defined) (getD (k .before .rest) 0 []) number
-broken-fault rule c n start b number place e k = judged-fault rule c (k .before .defined) (getD (k .before .rest) 0 []) place number e (k .fault)
+  -- the lines behind each section
+  abbrev restI : List (List ℕ)
+  restI = drop (h .inputs) rest
 
--- the numbers of these faults are 4 to 8
-broken-range : (rule : Rule) (c n start : ℕ) (b : Body) (number place : ℕ) → rule .count ≡ suc c → FiveToSeven rule → Broken rule n start b number place → (4 ≤ number) × (number ≤ 8)
-broken-range rule c n start b number place e r k =
-    fault-range rule (k .before .defined) (getD (k .before .rest) 0 []) number r (broken-fault rule c n start b number place e k)
+  abbrev restL : List (List ℕ)
+  restL = drop (h .latches) restI
 
-pub body-range : (h : Header) (rest : List (List ℕ)) (number place : ℕ) → BodyBroken h rest number place → (4 ≤ number) × (number ≤ 8)
-unfolding inputRule latchRule outputRule gateRule
-body-range h rest number place (inInputs k) = broken-range (inputRule (h .largest)) 0 _ _ _ number place refl (input-numbers (h .largest)) k
-body-range h rest number place (inLatches inputs a k) = broken-range (latchRule (h .largest)) 1 _ _ _ number place refl (latch-numbers (h .largest)) k
-body-range h rest number place (inOutput inputs latches a b k) = broken-range (outputRule (h .largest)) 0 _ _ _ number place refl (output-numbers (h .largest)) k
-body-range h rest number place (inGates inputs latches output a b c k) = broken-range (gateRule (h .largest)) 2 _ _ _ number place refl (gate-numbers (h .largest)) k
-body-range h rest number place (inUse inputs latches output gates a b c d k) = let seven : number ≡ 7 = k .seven in (omega arith, omega arith)
-body-range h rest number place (inSymbols inputs latches output gates a b c d u k) = let eight : number ≡ 8 = k .eight in (omega arith, omega arith)
+  abbrev restO : List (List ℕ)
+  restO = drop 1 restL
+
+  abbrev restG : List (List ℕ)
+  restG = drop (h .gates) restO
+
+  -- the variables defined so far
+  abbrev byI : (ins : List (List ℕ)) → List ℕ
+  byI ins = definedByAll (replicate (h .inputs) anInput) ins
+
+  abbrev byL : (ins lats : List (List ℕ)) → List ℕ
+  byL ins lats = byI ins ++ definedByAll (replicate (h .latches) aLatch) lats
+
+  abbrev byO : (ins lats outs : List (List ℕ)) → List ℕ
+  byO ins lats outs = byL ins lats ++ definedByAll (replicate 1 theOutput) outs
+
+  abbrev byG : (ins lats outs gs : List (List ℕ)) → List ℕ
+  byG ins lats outs gs = byO ins lats outs ++ definedByAll gateKinds gs
+
+  -- the lines of each section are right
+  abbrev RightI : (ins : List (List ℕ)) → Type 0
+  RightI ins = AllRight (h .largest) (replicate (h .inputs) anInput) [] rest ins
+
+  abbrev RightL : (ins lats : List (List ℕ)) → Type 0
+  RightL ins lats = AllRight (h .largest) (replicate (h .latches) aLatch) (byI ins) restI lats
+
+  abbrev RightO : (ins lats outs : List (List ℕ)) → Type 0
+  RightO ins lats outs = AllRight (h .largest) (replicate 1 theOutput) (byL ins lats) restL outs
+
+  abbrev RightG : (ins lats outs gs : List (List ℕ)) → Type 0
+  RightG ins lats outs gs = AllRight (h .largest) gateKinds (byO ins lats outs) restO gs
+
+  -- what reading has come to behind each
+  abbrev bodyI : (ins : List (List ℕ)) → Body
+  bodyI ins = body ins (byI ins) restI
+
+  abbrev bodyL : (ins lats : List (List ℕ)) → Body
+  bodyL ins lats = body lats (byL ins lats) restL
+
+  abbrev bodyO : (ins lats outs : List (List ℕ)) → Body
+  bodyO ins lats outs = body outs (byO ins lats outs) restO
+
+  abbrev bodyG : (ins lats outs gs : List (List ℕ)) → Body
+  bodyG ins lats outs gs = body gs (byG ins lats outs gs) restG
+
+  takes-inputs : (ins : List (List ℕ)) → RightI ins → inputSection h rest ≡ taken (bodyI ins)
+  takes-inputs ins r = right-section (h .largest) anInput (h .inputs) 2 [] ins [] rest r
+
+  takes-latches : (ins lats : List (List ℕ)) → RightL ins lats → latchSection h (bodyI ins) ≡ taken (bodyL ins lats)
+  unfolding onward
+  takes-latches ins lats r = right-section (h .largest) aLatch (h .latches) (2 + h .inputs) [] lats (byI ins) restI r
+
+  takes-output : (ins lats outs : List (List ℕ)) → RightO ins lats outs → outputSection h (bodyL ins lats) ≡ taken (bodyO ins lats outs)
+  unfolding onward
+  takes-output ins lats outs r = right-section (h .largest) theOutput 1 (2 + h .inputs + h .latches) [] outs (byL ins lats) restL r
+
+  takes-gates : (ins lats outs gs : List (List ℕ)) → RightG ins lats outs gs → gateSection h (bodyO ins lats outs) ≡ taken (bodyG ins lats outs gs)
+  unfolding onward
+  takes-gates ins lats outs gs r = right-section (h .largest) aGate (h .gates) (3 + h .inputs + h .latches) [] gs (byO ins lats outs) restO r
+
+  -- all lines are right: the four sections
+  record Sections (rows : List (List ℕ)) : Type 0 where
+    ins : List (List ℕ)
+    lats : List (List ℕ)
+    outs : List (List ℕ)
+    gs : List (List ℕ)
+    rightI : RightI ins
+    rightL : RightL ins lats
+    rightO : RightO ins lats outs
+    rightG : RightG ins lats outs gs
+    whole : rows ≡ ins ++ (lats ++ (outs ++ gs))
+
+  sections : (rows : List (List ℕ)) → AllRight (h .largest) (kinds h) [] rest rows → Sections rows
+  sections rows w =
+      let a : Split (h .largest) anInput latchKinds (h .inputs) [] rest rows = right-split (h .largest) anInput latchKinds (h .inputs) [] rest rows w in
+      let b : Split (h .largest) aLatch outputKinds (h .latches) (byI (a .rows)) restI (a .more) = right-split (h .largest) aLatch outputKinds (h .latches) (byI (a .rows)) restI (a .more) (a .others) in
+      let d : Split (h .largest) theOutput gateKinds 1 (byL (a .rows) (b .rows)) restL (b .more) = right-split (h .largest) theOutput gateKinds 1 (byL (a .rows) (b .rows)) restL (b .more) (b .others) in
+      record {
+        ins = a .rows;
+        lats = b .rows;
+        outs = d .rows;
+        gs = d .more;
+        rightI = a .right;
+        rightL = b .right;
+        rightO = d .right;
+        rightG = d .others;
+        whole = a .whole ∙ ap {B = List (List ℕ)} (λ r. a .rows ++ r) (b .whole ∙ ap {B = List (List ℕ)} (λ r. b .rows ++ r) (d .whole));
+      }
+
+  module _ (ins lats outs gs : List (List ℕ)) (rI : RightI ins) (rL : RightL ins lats) (rO : RightO ins lats outs) (rG : RightG ins lats outs gs) where
+    abbrev allRows : List (List ℕ)
+    allRows = ins ++ (lats ++ (outs ++ gs))
+
+    all-right : AllRight (h .largest) (kinds h) [] rest allRows
+    all-right =
+        right-join (h .largest) anInput latchKinds (h .inputs) [] rest ins (lats ++ (outs ++ gs)) rI
+        (right-join (h .largest) aLatch outputKinds (h .latches) (byI ins) restI lats (outs ++ gs) rL
+        (right-join (h .largest) theOutput gateKinds 1 (byL ins lats) restL outs gs rO rG))
+
+    known-all : definedByAll (kinds h) allRows ≡ byG ins lats outs gs
+    known-all =
+        let dL : List ℕ = definedByAll (replicate (h .latches) aLatch) lats in
+        let dO : List ℕ = definedByAll (replicate 1 theOutput) outs in
+        let dG : List ℕ = definedByAll gateKinds gs in
+        defined-join (h .largest) anInput latchKinds (h .inputs) ins (lats ++ (outs ++ gs)) (right-length (h .largest) anInput (h .inputs) ins [] rest rI)
+        ∙ ap {B = List ℕ} (λ d. byI ins ++ d)
+        (defined-join (h .largest) aLatch outputKinds (h .latches) lats (outs ++ gs) (right-length (h .largest) aLatch (h .latches) lats (byI ins) restI rL)
+        ∙ ap {B = List ℕ} (λ d. dL ++ d) (defined-join (h .largest) theOutput gateKinds 1 outs gs (right-length (h .largest) theOutput 1 outs (byL ins lats) restL rO)))
+        ∙ sym (append-assoc (byI ins) dL (dO ++ dG))
+        ∙ sym (append-assoc (byL ins lats) dO dG)
+
+    late-all : lateLiterals h allRows ≡ map (λ fs. getD fs 1 0) lats ++ map (λ fs. getD fs 0 0) outs
+    late-all =
+        let i : drop (h .inputs) allRows ≡ lats ++ (outs ++ gs) = drop-front (h .inputs) ins (lats ++ (outs ++ gs)) (right-length (h .largest) anInput (h .inputs) ins [] rest rI) in
+        let n : length lats ≡ h .latches = right-length (h .largest) aLatch (h .latches) lats (byI ins) restI rL in
+        ap₂ {C = List ℕ} (λ (a b : List (List ℕ)). map (λ fs. getD fs 1 0) a ++ map (λ fs. getD fs 0 0) b)
+        (ap (take (h .latches)) i ∙ take-front (h .latches) lats (outs ++ gs) n)
+        (ap (take 1) (ap (drop (h .latches)) i ∙ drop-front (h .latches) lats (outs ++ gs) n) ∙ take-front 1 outs gs (right-length (h .largest) theOutput 1 outs (byL ins lats) restL rO))
+
+  rest-all : drop (length (kinds h)) rest ≡ restG
+  rest-all =
+      let n : length (kinds h) ≡ h .inputs + h .latches + 1 + h .gates =
+      omega (arith, length-append (replicate (h .inputs) anInput) latchKinds, length-append (replicate (h .latches) aLatch) outputKinds, length-replicate (h .inputs) anInput, length-replicate (h .latches) aLatch, length-replicate (h .gates) aGate)
+      in
+      ap (λ (m : ℕ). drop m rest) n
+      ∙ sym (drop-drop (h .gates) (h .inputs + h .latches + 1) rest)
+      ∙ ap (drop (h .gates)) (sym (drop-drop 1 (h .inputs + h .latches) rest) ∙ ap (drop 1) (sym (drop-drop (h .latches) (h .inputs) rest)))
+
+  module _ (number place : ℕ) where
+    -- a first fault, told from the first line of the body on
+    from-latches : (ins : List (List ℕ)) → RightI ins → FirstFault (h .largest) latchKinds (byI ins) restI (2 + h .inputs) number place → FirstFault (h .largest) (kinds h) [] rest 2 number place
+    from-latches ins r f = first-behind (h .largest) anInput latchKinds number place (h .inputs) 2 [] rest ins (2 + h .inputs) (byI ins) restI r refl refl refl f
+
+    from-output : (ins lats : List (List ℕ)) → RightI ins → RightL ins lats → FirstFault (h .largest) outputKinds (byL ins lats) restL (2 + h .inputs + h .latches) number place → FirstFault (h .largest) (kinds h) [] rest 2 number place
+    from-output ins lats r s f =
+        from-latches ins r (first-behind (h .largest) aLatch outputKinds number place (h .latches) (2 + h .inputs) (byI ins) restI lats (2 + h .inputs + h .latches) (byL ins lats) restL s refl refl refl f)
+
+    from-gates : (ins lats outs : List (List ℕ)) → RightI ins → RightL ins lats → RightO ins lats outs → FirstFault (h .largest) gateKinds (byO ins lats outs) restO (3 + h .inputs + h .latches) number place → FirstFault (h .largest) (kinds h) [] rest 2 number place
+    from-gates ins lats outs r s t f =
+        from-output ins lats r s (first-behind (h .largest) theOutput gateKinds number place 1 (2 + h .inputs + h .latches) (byL ins lats) restL outs (3 + h .inputs + h .latches) (byO ins lats outs) restO t (omega arith) refl refl f)
+
+    behind-gates : (ins lats outs gs : List (List ℕ)) → RightI ins → RightL ins lats → RightO ins lats outs → RightG ins lats outs gs → behindGates h (bodyI ins) (bodyL ins lats) (bodyO ins lats outs) (bodyG ins lats outs gs) ≡ refused number place → BodyBroken h rest number place
+    behind-gates ins lats outs gs rI rL rO rG e =
+        elim (then-refused (lateStage h (bodyL ins lats) (bodyO ins lats outs) (bodyG ins lats outs gs)) (behindLate h (bodyI ins) (bodyL ins lats) (bodyO ins lats outs) (bodyG ins lats outs gs)) number place e) [
+          | inl r ↦ inUse all right (subst (λ (d : List ℕ). Unknown d (2 + h .inputs) (lateLiterals h all) number place) (sym known) (subst (λ (l : List ℕ). Unknown (byG ins lats outs gs) (2 + h .inputs) l number place) (sym late) (used-unknown (byG ins lats outs gs) (2 + h .inputs) lits number place r)))
+          | inr u ↦
+              elim (bind-refused (symbolStage h (bodyG ins lats outs gs)) (λ behind. taken (fileOf h (bodyI ins) (bodyL ins lats) (bodyO ins lats outs) (bodyG ins lats outs gs) behind)) number place (u .2)) [
+                | inl r ↦
+                    inSymbols all right
+                    (subst (λ (d : List ℕ). All (Known d) (lateLiterals h all)) (sym known) (subst (λ (l : List ℕ). All (Known (byG ins lats outs gs)) l) (sym late) (known-used (byG ins lats outs gs) (2 + h .inputs) lits tt (u .1))))
+                    (subst (λ (ls : List (List ℕ)). NoSymbol h (3 + h .inputs + h .latches + h .gates) [] ls number place) (sym rest-all) (symbols-broken h (3 + h .inputs + h .latches + h .gates) [] restG number place r))
+                | inr s ↦ absurd (taken-is-not-refused number place (fileOf h (bodyI ins) (bodyL ins lats) (bodyO ins lats outs) (bodyG ins lats outs gs) (s .0)) (s .2))
+              ]
+        ]
+      where
+        all : List (List ℕ)
+        all = ins ++ (lats ++ (outs ++ gs))
+
+        lits : List ℕ
+        lits = map (λ fs. getD fs 1 0) lats ++ map (λ fs. getD fs 0 0) outs
+
+        right : AllRight (h .largest) (kinds h) [] rest all
+        right = all-right ins lats outs gs rI rL rO rG
+
+        known : definedByAll (kinds h) all ≡ byG ins lats outs gs
+        known = known-all ins lats outs gs rI rL rO rG
+
+        late : lateLiterals h all ≡ lits
+        late = late-all ins lats outs gs rI rL rO rG
+
+    behind-output : (ins lats outs : List (List ℕ)) → RightI ins → RightL ins lats → RightO ins lats outs → behindOutput h (bodyI ins) (bodyL ins lats) (bodyO ins lats outs) ≡ refused number place → BodyBroken h rest number place
+    unfolding onward
+    behind-output ins lats outs rI rL rO e =
+        elim (bind-refused (gateSection h (bodyO ins lats outs)) (behindGates h (bodyI ins) (bodyL ins lats) (bodyO ins lats outs)) number place e) [
+          | inl r ↦ inLines (from-gates ins lats outs rI rL rO (section-first (h .largest) aGate (h .gates) (3 + h .inputs + h .latches) [] (byO ins lats outs) restO number place r))
+          | inr d ↦
+              let (gs, rG, is) = section-right (h .largest) aGate (h .gates) (3 + h .inputs + h .latches) [] (byO ins lats outs) restO (d .0) (d .1) in
+              behind-gates ins lats outs gs rI rL rO rG (subst (λ (b : Body). behindGates h (bodyI ins) (bodyL ins lats) (bodyO ins lats outs) b ≡ refused number place) is (d .2))
+        ]
+
+    behind-latches : (ins lats : List (List ℕ)) → RightI ins → RightL ins lats → behindLatches h (bodyI ins) (bodyL ins lats) ≡ refused number place → BodyBroken h rest number place
+    unfolding onward
+    behind-latches ins lats rI rL e =
+        elim (bind-refused (outputSection h (bodyL ins lats)) (behindOutput h (bodyI ins) (bodyL ins lats)) number place e) [
+          | inl r ↦ inLines (from-output ins lats rI rL (first-front (h .largest) theOutput gateKinds number place 1 (2 + h .inputs + h .latches) (byL ins lats) restL (section-first (h .largest) theOutput 1 (2 + h .inputs + h .latches) [] (byL ins lats) restL number place r)))
+          | inr c ↦
+              let (outs, rO, is) = section-right (h .largest) theOutput 1 (2 + h .inputs + h .latches) [] (byL ins lats) restL (c .0) (c .1) in
+              behind-output ins lats outs rI rL rO (subst (λ (b : Body). behindOutput h (bodyI ins) (bodyL ins lats) b ≡ refused number place) is (c .2))
+        ]
+
+    behind-inputs : (ins : List (List ℕ)) → RightI ins → behindInputs h (bodyI ins) ≡ refused number place → BodyBroken h rest number place
+    unfolding onward
+    behind-inputs ins rI e =
+        elim (bind-refused (latchSection h (bodyI ins)) (behindLatches h (bodyI ins)) number place e) [
+          | inl r ↦ inLines (from-latches ins rI (first-front (h .largest) aLatch outputKinds number place (h .latches) (2 + h .inputs) (byI ins) restI (section-first (h .largest) aLatch (h .latches) (2 + h .inputs) [] (byI ins) restI number place r)))
+          | inr b ↦
+              let (lats, rL, is) = section-right (h .largest) aLatch (h .latches) (2 + h .inputs) [] (byI ins) restI (b .0) (b .1) in
+              behind-latches ins lats rI rL (subst (λ (d : Body). behindLatches h (bodyI ins) d ≡ refused number place) is (b .2))
+        ]
+
+    pub lines-broken : linesRead h rest ≡ refused number place → BodyBroken h rest number place
+    unfolding linesRead
+    lines-broken e =
+        elim (bind-refused (inputSection h rest) (behindInputs h) number place e) [
+          | inl r ↦ inLines (first-front (h .largest) anInput latchKinds number place (h .inputs) 2 [] rest (section-first (h .largest) anInput (h .inputs) 2 [] [] rest number place r))
+          | inr a ↦
+              let (ins, rI, is) = section-right (h .largest) anInput (h .inputs) 2 [] [] rest (a .0) (a .1) in
+              behind-inputs ins rI (subst (λ (b : Body). behindInputs h b ≡ refused number place) is (a .2))
+        ]
+
+    -- and where one is, the lines are refused
+    first-gates : (ins lats outs : List (List ℕ)) → RightI ins → RightL ins lats → RightO ins lats outs → FirstFault (h .largest) gateKinds (byO ins lats outs) restO (2 + h .inputs + h .latches + 1) number place → linesRead h rest ≡ refused number place
+    unfolding linesRead onward
+    first-gates ins lats outs rI rL rO f =
+        let here : 2 + h .inputs + h .latches + 1 ≡ 3 + h .inputs + h .latches = omega arith in
+        let refuses : gateSection h (bodyO ins lats outs) ≡ refused number place = first-section (h .largest) aGate (h .gates) (3 + h .inputs + h .latches) [] (byO ins lats outs) restO number place (subst (λ (q : ℕ). FirstFault (h .largest) gateKinds (byO ins lats outs) restO q number place) here f) in
+        rw (takes-inputs ins rI, takes-latches ins lats rL, takes-output ins lats outs rO, refuses)
+
+    first-output : (ins lats : List (List ℕ)) → RightI ins → RightL ins lats → Where (h .largest) theOutput gateKinds number place 1 (2 + h .inputs + h .latches) (byL ins lats) restL → linesRead h rest ≡ refused number place
+    unfolding linesRead onward
+    first-output ins lats rI rL (front f) =
+        let refuses : outputSection h (bodyL ins lats) ≡ refused number place = first-section (h .largest) theOutput 1 (2 + h .inputs + h .latches) [] (byL ins lats) restL number place f in
+        rw (takes-inputs ins rI, takes-latches ins lats rL, refuses)
+    first-output ins lats rI rL (behind outs rO f) = first-gates ins lats outs rI rL rO f
+
+    first-latches : (ins : List (List ℕ)) → RightI ins → Where (h .largest) aLatch outputKinds number place (h .latches) (2 + h .inputs) (byI ins) restI → linesRead h rest ≡ refused number place
+    unfolding linesRead onward
+    first-latches ins rI (front f) =
+        let refuses : latchSection h (bodyI ins) ≡ refused number place = first-section (h .largest) aLatch (h .latches) (2 + h .inputs) [] (byI ins) restI number place f in
+        rw (takes-inputs ins rI, refuses)
+    first-latches ins rI (behind lats rL f) = first-output ins lats rI rL (where-first (h .largest) theOutput gateKinds number place 1 (2 + h .inputs + h .latches) (byL ins lats) restL f)
+
+    first-lines : Where (h .largest) anInput latchKinds number place (h .inputs) 2 [] rest → linesRead h rest ≡ refused number place
+    unfolding linesRead
+    first-lines (front f) =
+        let refuses : inputSection h rest ≡ refused number place = first-section (h .largest) anInput (h .inputs) 2 [] [] rest number place f in
+        rw refuses
+    first-lines (behind ins rI f) = first-latches ins rI (where-first (h .largest) aLatch outputKinds number place (h .latches) (2 + h .inputs) (byI ins) restI f)
+
+    use-refused : (rows : List (List ℕ)) → Sections rows → Unknown (definedByAll (kinds h) rows) (2 + h .inputs) (lateLiterals h rows) number place → linesRead h rest ≡ refused number place
+    unfolding linesRead
+    use-refused rows s u =
+        let all : List (List ℕ) = s .ins ++ (s .lats ++ (s .outs ++ s .gs)) in
+        let v : Unknown (definedByAll (kinds h) all) (2 + h .inputs) (lateLiterals h all) number place = subst (λ (r : List (List ℕ)). Unknown (definedByAll (kinds h) r) (2 + h .inputs) (lateLiterals h r) number place) (s .whole) u in
+        let known : definedByAll (kinds h) all ≡ byG (s .ins) (s .lats) (s .outs) (s .gs) = known-all (s .ins) (s .lats) (s .outs) (s .gs) (s .rightI) (s .rightL) (s .rightO) (s .rightG) in
+        let late : lateLiterals h all ≡ map (λ fs. getD fs 1 0) (s .lats) ++ map (λ fs. getD fs 0 0) (s .outs) = late-all (s .ins) (s .lats) (s .outs) (s .gs) (s .rightI) (s .rightL) (s .rightO) (s .rightG) in
+        let refuses : lateStage h (bodyL (s .ins) (s .lats)) (bodyO (s .ins) (s .lats) (s .outs)) (bodyG (s .ins) (s .lats) (s .outs) (s .gs)) ≡ refused number place =
+        unknown-used (byG (s .ins) (s .lats) (s .outs) (s .gs)) (2 + h .inputs) (map (λ fs. getD fs 1 0) (s .lats) ++ map (λ fs. getD fs 0 0) (s .outs)) number place
+        (subst (λ (d : List ℕ). Unknown d (2 + h .inputs) (map (λ fs. getD fs 1 0) (s .lats) ++ map (λ fs. getD fs 0 0) (s .outs)) number place) known (subst (λ (l : List ℕ). Unknown (definedByAll (kinds h) all) (2 + h .inputs) l number place) late v))
+        in
+        rw (takes-inputs (s .ins) (s .rightI), takes-latches (s .ins) (s .lats) (s .rightL), takes-output (s .ins) (s .lats) (s .outs) (s .rightO), takes-gates (s .ins) (s .lats) (s .outs) (s .gs) (s .rightG), refuses)
+
+    symbols-refused : (rows : List (List ℕ)) → Sections rows → All (Known (definedByAll (kinds h) rows)) (lateLiterals h rows) → NoSymbol h (3 + h .inputs + h .latches + h .gates) [] (drop (length (kinds h)) rest) number place → linesRead h rest ≡ refused number place
+    unfolding linesRead
+    symbols-refused rows s k n =
+        let all : List (List ℕ) = s .ins ++ (s .lats ++ (s .outs ++ s .gs)) in
+        let v : All (Known (definedByAll (kinds h) all)) (lateLiterals h all) = subst (λ (r : List (List ℕ)). All (Known (definedByAll (kinds h) r)) (lateLiterals h r)) (s .whole) k in
+        let known : definedByAll (kinds h) all ≡ byG (s .ins) (s .lats) (s .outs) (s .gs) = known-all (s .ins) (s .lats) (s .outs) (s .gs) (s .rightI) (s .rightL) (s .rightO) (s .rightG) in
+        let late : lateLiterals h all ≡ map (λ fs. getD fs 1 0) (s .lats) ++ map (λ fs. getD fs 0 0) (s .outs) = late-all (s .ins) (s .lats) (s .outs) (s .gs) (s .rightI) (s .rightL) (s .rightO) (s .rightG) in
+        let takes : lateStage h (bodyL (s .ins) (s .lats)) (bodyO (s .ins) (s .lats) (s .outs)) (bodyG (s .ins) (s .lats) (s .outs) (s .gs)) ≡ taken tt =
+        used-known (byG (s .ins) (s .lats) (s .outs) (s .gs)) (2 + h .inputs) (map (λ fs. getD fs 1 0) (s .lats) ++ map (λ fs. getD fs 0 0) (s .outs))
+        (subst (λ (d : List ℕ). All (Known d) (map (λ fs. getD fs 1 0) (s .lats) ++ map (λ fs. getD fs 0 0) (s .outs))) known (subst (λ (l : List ℕ). All (Known (definedByAll (kinds h) all)) l) late v))
+        in
+        let refuses : symbolStage h (bodyG (s .ins) (s .lats) (s .outs) (s .gs)) ≡ refused number place = broken-symbols h (3 + h .inputs + h .latches + h .gates) [] restG number place (subst (λ (ls : List (List ℕ)). NoSymbol h (3 + h .inputs + h .latches + h .gates) [] ls number place) rest-all n) in
+        rw (takes-inputs (s .ins) (s .rightI), takes-latches (s .ins) (s .lats) (s .rightL), takes-output (s .ins) (s .lats) (s .outs) (s .rightO), takes-gates (s .ins) (s .lats) (s .outs) (s .gs) (s .rightG), takes, refuses)
+
+    pub broken-lines : BodyBroken h rest number place → linesRead h rest ≡ refused number place
+    broken-lines (inLines f) = first-lines (where-first (h .largest) anInput latchKinds number place (h .inputs) 2 [] rest f)
+    broken-lines (inUse rows w u) = use-refused rows (sections rows w) u
+    broken-lines (inSymbols rows w k n) = symbols-refused rows (sections rows w) k n
+
+    -- the numbers of these faults are 4 to 8
+    pub body-range : BodyBroken h rest number place → (4 ≤ number) × (number ≤ 8)
+    body-range (inLines f) = let (low, high) = first-range (h .largest) (kinds h) [] rest 2 number place f in (low, omega (arith, high))
+    body-range (inUse rows w u) = let seven : number ≡ 7 = u .seven in (omega arith, omega arith)
+    body-range (inSymbols rows w k n) = let eight : number ≡ 8 = n .eight in (omega arith, omega arith)

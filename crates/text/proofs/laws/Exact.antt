@@ -1,31 +1,63 @@
 -- Refusals are exact (01, "The numbers", 1 to 9): each number is given exactly when the table says so, in its order and at its place.
 -- Assumes nothing.
-use Prim.Native.Nat.{ℕ, _<_, _≤_}
+use Prim.Native.Nat.{ℕ, _+_, _<_, _≤_}
 use native.Mathlib.Omega.{arith}
-use mathlib.Core.Bool.{Bool, true, false, true≢false}
+use mathlib.Core.Bool.{Bool, true, false, _||_, true≢false}
 use mathlib.Core.List.{List, []}
-use mathlib.Core.Logic.{_↔_}
+use mathlib.Core.Logic.{_⊎_, inl, inr, _↔_}
 use mathlib.Core.Option.{Option, none, some}
-use mathlib.Core.Path.{_≡_, refl, sym, _∙_, subst₂}
+use mathlib.Core.Path.{_≡_, refl, sym, ap, _∙_, subst₂}
 use lib.Dec.{ltb}
 use lib.ListN.{length, getD, drop}
 use borrow.Author.Tests.{ltb-true, ltb-false, lt-ltb, le-ltb}
-use Rattle.circuit.specs.Circuit.{Circuit, tooMany}
+use Rattle.circuit.specs.Circuit.{Circuit, uncontrollableCount, controllableCount, tooMany}
 use Rattle.circuit.specs.Limits.{Limits}
 use Rattle.circuit.specs.Outcome.{Outcome, taken, refused, refuseIf}
-use Rattle.text.specs.BodyBroken.{BodyBroken}
+use Rattle.text.specs.BodyBroken.{BodyBroken, inLines, inUse, inSymbols}
+use Rattle.text.specs.Crowded.{Crowded, manyUncontrollable, manyControllable}
+use Rattle.text.specs.FirstFault.{AllRight, FirstFault}
 use Rattle.text.specs.Headed.{Headed, Headless}
 use Rattle.text.specs.Header.{Header, headerNumbers, headerOf, withinLimits}
+use Rattle.text.specs.InList.{All}
+use Rattle.text.specs.Kind.{kinds, definedByAll}
 use Rattle.text.specs.Line.{lines}
-use Rattle.text.specs.Numbers.{fileTooLong, badHeader, headerLimit, tooManyInputs}
+use Rattle.text.specs.NoSymbol.{NoSymbol}
+use Rattle.text.specs.Numbers.{fileTooLong, badHeader, headerLimit, badLine, badLiteral, definedTwice, notDefined, badSymbol, tooManyInputs}
 use Rattle.text.specs.Read.{orBadHeader, linesRead, fileRead, circuitRead}
 use Rattle.text.specs.Row.{Begun, Row, one, two, three, fourToEight, nine}
 use Rattle.text.specs.TextFile.{TextFile, circuitOf}
+use Rattle.text.specs.Unknown.{lateLiterals, Unknown}
+use Rattle.text.specs.WellFormed.{Known}
 use Rattle.text.specs.Within.{Within}
 use Rattle.text.proofs.laws.BodyBroken.{lines-broken, broken-lines, body-range}
+use Rattle.text.proofs.laws.FirstFault.{first-range}
 use Rattle.text.proofs.laws.Header.{read-headed, headed-read, within-is, within-of}
 use Rattle.text.proofs.laws.Line.{none-is-not-some}
+use Rattle.text.proofs.laws.Lists.{either}
 use Rattle.text.proofs.laws.Outcome.{taken-is-not-refused, taken-is, refused-number, refused-place}
+
+-- the test for 9 says its statement
+too-many-says : (limits : Limits) (c : Circuit) → (tooMany limits c ≡ true) ↔ Crowded limits c
+unfolding tooMany
+too-many-says limits c = (λ e. to (either a b e), back)
+  where
+    a : Bool
+    a = ltb (limits .uncontrollable) (uncontrollableCount c)
+
+    b : Bool
+    b = ltb (limits .controllable) (controllableCount c)
+
+    to : (a ≡ true) ⊎ (b ≡ true) → Crowded limits c
+    to (inl e) = manyUncontrollable (ltb-true _ _ e)
+    to (inr e) = manyControllable (ltb-true _ _ e)
+
+    second : (t : Bool) → b ≡ true → (t || b) ≡ true
+    second true e = refl
+    second false e = e
+
+    back : Crowded limits c → (a || b) ≡ true
+    back (manyUncontrollable h) = ap (λ (t : Bool). t || b) (lt-ltb _ _ h)
+    back (manyControllable h) = second a (lt-ltb _ _ h)
 
 module _ (limits : Limits) (bytes : List ℕ) where
   too-long : limits .file < length bytes → circuitRead limits bytes ≡ refused fileTooLong 0
@@ -57,9 +89,9 @@ module _ (limits : Limits) (bytes : List ℕ) where
   unfolding circuitRead
   body-refused h number place b k = rw (begun-read h b, broken-lines h (drop 1 (lines bytes)) number place k)
 
-  crowded-refused : (f : TextFile) → fileRead limits bytes ≡ taken f → tooMany limits (circuitOf f) ≡ true → circuitRead limits bytes ≡ refused tooManyInputs 0
+  crowded-refused : (f : TextFile) → fileRead limits bytes ≡ taken f → Crowded limits (circuitOf f) → circuitRead limits bytes ≡ refused tooManyInputs 0
   unfolding circuitRead refuseIf
-  crowded-refused f e t = rw (e, t)
+  crowded-refused f e w = rw (e, too-many-says limits (circuitOf f) .1 w)
 
   circuit-taken : (f : TextFile) → fileRead limits bytes ≡ taken f → tooMany limits (circuitOf f) ≡ false → circuitRead limits bytes ≡ taken (circuitOf f)
   unfolding circuitRead refuseIf
@@ -71,14 +103,14 @@ module _ (limits : Limits) (bytes : List ℕ) where
     headless : length bytes ≤ limits .file → Headless bytes → Came
     limited : length bytes ≤ limits .file → (h : Header) → Headed bytes h → (Within limits h → ⊥) → Came
     broken : (h : Header) (number place : ℕ) → Begun limits bytes h → BodyBroken h (drop 1 (lines bytes)) number place → Came
-    crowded : (f : TextFile) → fileRead limits bytes ≡ taken f → tooMany limits (circuitOf f) ≡ true → Came
+    crowded : (f : TextFile) → fileRead limits bytes ≡ taken f → Crowded limits (circuitOf f) → Came
     fine : (f : TextFile) → fileRead limits bytes ≡ taken f → tooMany limits (circuitOf f) ≡ false → Came
 
   came-body : (h : Header) → Begun limits bytes h → Came
   came-body h b = by (linesRead h (drop 1 (lines bytes))) refl
     where
       counted : (f : TextFile) → fileRead limits bytes ≡ taken f → (u : Bool) → tooMany limits (circuitOf f) ≡ u → Came
-      counted f e true t = crowded f e t
+      counted f e true t = crowded f e (too-many-says limits (circuitOf f) .0 t)
       counted f e false t = fine f e t
 
       by : (o : Outcome TextFile) → linesRead h (drop 1 (lines bytes)) ≡ o → Came
@@ -169,10 +201,64 @@ module _ (limits : Limits) (bytes : List ℕ) where
       by (fourToEight h b k) = (h, b, k)
       by (nine n p f e t) = absurd (omega (arith, n, high))
 
-  pub nine-exactly : (place : ℕ) → (circuitRead limits bytes ≡ refused tooManyInputs place) ↔ ((f : TextFile) × (fileRead limits bytes ≡ taken f) × (tooMany limits (circuitOf f) ≡ true) × (place ≡ 0))
+  abbrev body : List (List ℕ)
+  body = drop 1 (lines bytes)
+
+  -- 4, 5 and 6 are given for the first line at fault; 7 for that too, or for the first next state or output; 8 for the first bad symbol line
+  in-lines : (number place : ℕ) → (number ≡ notDefined → ⊥) → (number ≡ badSymbol → ⊥) → 4 ≤ number → number ≤ 8 → (circuitRead limits bytes ≡ refused number place) ↔ ((h : Header) × Begun limits bytes h × FirstFault (h .largest) (kinds h) [] body 2 number place)
+  in-lines number place seven eight low high =
+      (λ e. by (four-to-eight-exactly number place low high .0 e), λ t. four-to-eight-exactly number place low high .1 (t .0, t .1, inLines (t .2)))
+    where
+      by : (h : Header) × Begun limits bytes h × BodyBroken h body number place → (h : Header) × Begun limits bytes h × FirstFault (h .largest) (kinds h) [] body 2 number place
+      by (h, b, inLines f) = (h, b, f)
+      by (h, b, inUse rows w u) = absurd (seven (u .seven))
+      by (h, b, inSymbols rows w k n) = absurd (eight (n .eight))
+
+  pub four-exactly : (place : ℕ) → (circuitRead limits bytes ≡ refused badLine place) ↔ ((h : Header) × Begun limits bytes h × FirstFault (h .largest) (kinds h) [] body 2 badLine place)
+  four-exactly place = in-lines badLine place (λ e. omega (arith, e)) (λ e. omega (arith, e)) (omega arith) (omega arith)
+
+  pub five-exactly : (place : ℕ) → (circuitRead limits bytes ≡ refused badLiteral place) ↔ ((h : Header) × Begun limits bytes h × FirstFault (h .largest) (kinds h) [] body 2 badLiteral place)
+  five-exactly place = in-lines badLiteral place (λ e. omega (arith, e)) (λ e. omega (arith, e)) (omega arith) (omega arith)
+
+  pub six-exactly : (place : ℕ) → (circuitRead limits bytes ≡ refused definedTwice place) ↔ ((h : Header) × Begun limits bytes h × FirstFault (h .largest) (kinds h) [] body 2 definedTwice place)
+  six-exactly place = in-lines definedTwice place (λ e. omega (arith, e)) (λ e. omega (arith, e)) (omega arith) (omega arith)
+
+  -- the late 7 of lines that are right
+  pub record Late (h : Header) (place : ℕ) : Type 0 where
+    pub rows : List (List ℕ)
+    pub right : AllRight (h .largest) (kinds h) [] body rows
+    pub unknown : Unknown (definedByAll (kinds h) rows) (2 + h .inputs) (lateLiterals h rows) notDefined place
+
+  pub seven-exactly : (place : ℕ) → (circuitRead limits bytes ≡ refused notDefined place) ↔ ((h : Header) × Begun limits bytes h × (FirstFault (h .largest) (kinds h) [] body 2 notDefined place ⊎ Late h place))
+  seven-exactly place = (λ e. by (four-to-eight-exactly notDefined place (omega arith) (omega arith) .0 e), λ t. four-to-eight-exactly notDefined place (omega arith) (omega arith) .1 (t .0, t .1, back (t .0) (t .2)))
+    where
+      by : (h : Header) × Begun limits bytes h × BodyBroken h body notDefined place → (h : Header) × Begun limits bytes h × (FirstFault (h .largest) (kinds h) [] body 2 notDefined place ⊎ Late h place)
+      by (h, b, inLines f) = (h, b, inl f)
+      by (h, b, inUse rows w u) = (h, b, inr (record { rows = rows; right = w; unknown = u }))
+      by (h, b, inSymbols rows w k n) = absurd (omega (arith, n .eight))
+
+      back : (h : Header) → FirstFault (h .largest) (kinds h) [] body 2 notDefined place ⊎ Late h place → BodyBroken h body notDefined place
+      back h (inl f) = inLines f
+      back h (inr l) = inUse (l .rows) (l .right) (l .unknown)
+
+  -- lines that are right, next states and output among them
+  pub record Settled (h : Header) : Type 0 where
+    pub rows : List (List ℕ)
+    pub right : AllRight (h .largest) (kinds h) [] body rows
+    pub known : All (Known (definedByAll (kinds h) rows)) (lateLiterals h rows)
+
+  pub eight-exactly : (place : ℕ) → (circuitRead limits bytes ≡ refused badSymbol place) ↔ ((h : Header) × Begun limits bytes h × Settled h × NoSymbol h (3 + h .inputs + h .latches + h .gates) [] (drop (length (kinds h)) body) badSymbol place)
+  eight-exactly place = (λ e. by (four-to-eight-exactly badSymbol place (omega arith) (omega arith) .0 e), λ t. four-to-eight-exactly badSymbol place (omega arith) (omega arith) .1 (t .0, t .1, inSymbols (t .2 .rows) (t .2 .right) (t .2 .known) (t .3)))
+    where
+      by : (h : Header) × Begun limits bytes h × BodyBroken h body badSymbol place → (h : Header) × Begun limits bytes h × Settled h × NoSymbol h (3 + h .inputs + h .latches + h .gates) [] (drop (length (kinds h)) body) badSymbol place
+      by (h, b, inLines f) = absurd (omega (arith, first-range (h .largest) (kinds h) [] body 2 badSymbol place f .1))
+      by (h, b, inUse rows w u) = absurd (omega (arith, u .seven))
+      by (h, b, inSymbols rows w k n) = (h, b, record { rows = rows; right = w; known = k }, n)
+
+  pub nine-exactly : (place : ℕ) → (circuitRead limits bytes ≡ refused tooManyInputs place) ↔ ((f : TextFile) × (fileRead limits bytes ≡ taken f) × Crowded limits (circuitOf f) × (place ≡ 0))
   nine-exactly place = (λ e. by (refused-row tooManyInputs place e), λ t. row-refused tooManyInputs place (nine refl (t .3) (t .0) (t .1) (t .2)))
     where
-      by : Row limits bytes tooManyInputs place → (f : TextFile) × (fileRead limits bytes ≡ taken f) × (tooMany limits (circuitOf f) ≡ true) × (place ≡ 0)
+      by : Row limits bytes tooManyInputs place → (f : TextFile) × (fileRead limits bytes ≡ taken f) × Crowded limits (circuitOf f) × (place ≡ 0)
       by (one n p a) = absurd (omega (arith, n))
       by (two n p a b) = absurd (omega (arith, n))
       by (three n p a h t w) = absurd (omega (arith, n))

@@ -17,12 +17,13 @@ use Rattle.circuit.specs.Outcome.{taken}
 use Rattle.text.specs.Headed.{rowOf, Headed}
 use Rattle.text.specs.Header.{Header, word, headerNumbers, headerOf, withinLimits}
 use Rattle.text.specs.Line.{lines}
+use Rattle.text.specs.LineIs.{LineIs}
 use Rattle.text.specs.Numbers.{badHeader}
 use Rattle.text.specs.Read.{orBadHeader}
 use Rattle.text.specs.TextFile.{TextFile}
 use Rattle.text.specs.Within.{Within}
 use Rattle.text.specs.Written.{numberLine}
-use Rattle.text.proofs.laws.Line.{IsLine, lines-first, LineIs, numbers-line, numbers-is, number-line-is-line, flat-lines, none-is-not-some}
+use Rattle.text.proofs.laws.Line.{IsLine, lines-first, numbers-line, numbers-is, number-line-is-line, flat-lines, none-is-not-some}
 use Rattle.text.proofs.laws.Outcome.{refused-is-not-taken, taken-is}
 
 -- the header of a file

@@ -11,6 +11,7 @@ use lib.ListN.{length, getD, drop, length-append}
 use borrow.Author.Tests.{eqb-true, ne-eqb, not-true}
 use Rattle.bits.specs.Digits.{AllBelow}
 use Rattle.text.specs.Line.{before, lines, prepend, fields, separators, numbersOf}
+use Rattle.text.specs.LineIs.{LineIs}
 use Rattle.text.specs.Number.{isDigit, Num, is, bad, number, decimal}
 use Rattle.text.specs.Written.{numberLine}
 use Rattle.text.proofs.laws.Number.{number-decimal, number-is, NumberIs, decimal-each, digit-range}
@@ -113,12 +114,6 @@ first p ps t fs e = by (number t) refl
     by : (m : Num) → number t ≡ m → First p ps t fs
     by bad f = absurd (none-is-not-some fs (rw (f, fields) at e))
     by (is v rest) f = with-number v rest f (eqb (getD rest 0 0) p) refl
-
--- what a line of numbers is
-pub record LineIs (n : ℕ) (t fs : List ℕ) : Type 0 where
-  pub count : length fs ≡ n
-  pub text : t ≡ numberLine fs
-  pub below : AllBelow (10 ^ 7) fs
 
 pub starts : (p : ℕ) (t : List ℕ) → getD t 0 0 ≡ p → 0 < p → t ≡ p ∷ drop 1 t
 starts p [] e h = absurd (omega arith)

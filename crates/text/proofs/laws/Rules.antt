@@ -32,7 +32,7 @@ not-too-large-of : (M l : ℕ) → l ≤ 2 * M + 1 → tooLarge M l ≡ false
 unfolding tooLarge
 not-too-large-of M l h = le-ltb (2 * M + 1) l h
 
-good-own : (M l : ℕ) → badOwn M l ≡ false → Defining M l
+pub good-own : (M l : ℕ) → badOwn M l ≡ false → Defining M l
 unfolding badOwn mayDefine
 good-own M l e =
     let (a, b) = neither (tooLarge M l) (not (mayDefine l)) e in

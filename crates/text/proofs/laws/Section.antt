@@ -10,11 +10,12 @@ use Rattle.bits.specs.Digits.{AllBelow}
 use Rattle.circuit.specs.Literal.{variable}
 use Rattle.circuit.specs.Outcome.{taken}
 use Rattle.text.specs.Line.{numbersOf}
+use Rattle.text.specs.LineIs.{LineIs}
 use Rattle.text.specs.Numbers.{badLine}
 use Rattle.text.specs.Rules.{Rule}
 use Rattle.text.specs.Section.{judged, Body, withRow, section}
 use Rattle.text.specs.Written.{numberLine}
-use Rattle.text.proofs.laws.Line.{numbers-line, numbers-is, LineIs, number-line-some}
+use Rattle.text.proofs.laws.Line.{numbers-line, numbers-is, number-line-some}
 use Rattle.text.proofs.laws.Outcome.{refused-is-not-taken, bind-taken}
 
 -- what a line of these numbers defines

@@ -133,7 +133,7 @@ symbol-line-is-line h seen s g =
       whole = ap {B = List ℕ} (λ t. s .letter ∷ t) (sym (append-assoc (decimal (s .position)) (32 ∷ s .name) (10 ∷ [])));
     }
 
-symbol-line-is-no-comment : (s : Symbol) → isComment (symbolLine s) ≡ false
+pub symbol-line-is-no-comment : (s : Symbol) → isComment (symbolLine s) ≡ false
 unfolding isComment symbolLine
 symbol-line-is-no-comment s = by (sameBytes (symbolLine s) (ascii "c\n")) refl
   where

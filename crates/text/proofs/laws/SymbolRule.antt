@@ -35,7 +35,7 @@ within-placed f s h = by (eqb (s .letter) inputLetter) (eqb (s .letter) latchLet
     by false false true e g k = ofOutput (eqb-true _ _ k) (rw (e, g, k) at h)
     by false false false e g k = absurd (not-suc-le-zero (rw (e, g, k) at h))
 
-name-bytes : (t : List ℕ) → All (λ b. (32 ≤ b) × (b ≤ 126)) t → Each isNameByte t
+pub name-bytes : (t : List ℕ) → All (λ b. (32 ≤ b) × (b ≤ 126)) t → Each isNameByte t
 unfolding isNameByte
 name-bytes [] a = tt
 name-bytes (b ∷ t) a = (rw (le-leb 32 b (a .0 .0), le-leb b 126 (a .0 .1)), name-bytes t (a .1))
@@ -47,7 +47,7 @@ bytes-name (b ∷ t) a =
     let (low, high) = both-true (leb 32 b) (leb b 126) (a .0) in
     ((leb-true 32 b low, leb-true b 126 high), bytes-name t (a .1))
 
-apart-fresh : (s t : Symbol) → Apart t s → names (s .letter) (s .position) t ≡ false
+pub apart-fresh : (s t : Symbol) → Apart t s → names (s .letter) (s .position) t ≡ false
 unfolding names
 apart-fresh s t a = by (eqb (t .letter) (s .letter)) refl
   where
@@ -55,7 +55,7 @@ apart-fresh s t a = by (eqb (t .letter) (s .letter)) refl
     by true e = rw e (ne-eqb _ _ (a (eqb-true _ _ e)))
     by false e = rw e
 
-fresh-apart : (s t : Symbol) → names (s .letter) (s .position) t ≡ false → Apart t s
+pub fresh-apart : (s t : Symbol) → names (s .letter) (s .position) t ≡ false → Apart t s
 unfolding names
 fresh-apart s t e l p = eqb-false (t .position) (s .position) (rw (eq-eqb (t .letter) (s .letter) l) at e) p
 
