@@ -42,64 +42,44 @@ latch-has seen [] below l s val o = kept-bit seen (latchVariable l) s val _ (lat
 latch-has seen (a ∷ above) below l s val o =
     latch-has (seen ++ (latchVariable a ∷ [])) above below l (s / 2) _ (o .1) ∙ sym (bit-suc s (length above))
 
-chosen : Input → Bool
-chosen i = i .controllable
+-- whether an input is controllable, or uncontrollable
+ofSort : Bool → Input → Bool
+ofSort t i = cond t (i .controllable) (not (i .controllable))
 
-other : Input → Bool
-other i = not (i .controllable)
+-- an input, when all inputs are put: controllable with a bit of the control, or not with a bit of the reading
+input-has :
+    (seen : List ℕ) (above below : List Input) (i : Input) (t : Bool) (r k : ℕ) (val : Valuation) →
+    i .controllable ≡ t → Once seen (map inputVariable (above ++ (i ∷ below))) →
+    oneIf (withInputs (above ++ (i ∷ below)) r k val (inputVariable i)) ≡ bit (cond t k r) (inputsThat (ofSort t) above)
+unfolding withInputs inputsThat ofSort
+input-has seen [] below i t r k val e o = rw e (by t)
+  where
+    v : ℕ
+    v = inputVariable i
 
--- an input, when all inputs are put
-uncontrollable-has :
-    (seen : List ℕ) (above below : List Input) (i : Input) (r k : ℕ) (val : Valuation) →
-    i .controllable ≡ false → Once seen (map inputVariable (above ++ (i ∷ below))) →
-    oneIf (withInputs (above ++ (i ∷ below)) r k val (inputVariable i)) ≡ bit r (inputsThat other above)
-unfolding withInputs inputsThat other
-uncontrollable-has seen [] below i r k val e o =
-    rw e (kept-bit seen (inputVariable i) r val _ (inputs-agree (seen ++ (inputVariable i ∷ [])) below (r / 2) k _ (o .1)))
-uncontrollable-has seen (a ∷ above) below i r k val e o =
-    by (a .controllable) (λ p q v. uncontrollable-has (seen ++ (inputVariable a ∷ [])) above below i p q v e (o .1))
+    kept : (p q : ℕ) (u : Valuation) → Agree (seen ++ (v ∷ [])) (withInputs below p q u) u
+    kept p q u = inputs-agree (seen ++ (v ∷ [])) below p q u (o .1)
+
+    by : (b : Bool) → oneIf (cond b (withInputs below r (k / 2) (put v (odd k) val)) (withInputs below (r / 2) k (put v (odd r) val)) v) ≡ bit (cond b k r) 0
+    by true = kept-bit seen v k val _ (kept r (k / 2) _)
+    by false = kept-bit seen v r val _ (kept (r / 2) k _)
+input-has seen (a ∷ above) below i t r k val e o =
+    by (a .controllable) t (inputsThat (ofSort t) above) (λ p q u. input-has (seen ++ (inputVariable a ∷ [])) above below i t p q u e (o .1))
   where
     is : List Input
     is = above ++ (i ∷ below)
 
-    n : ℕ
-    n = inputsThat other above
-
     after : Bool → Valuation
-    after t = put (inputVariable a) t val
+    after b = put (inputVariable a) b val
 
     by :
-        (t : Bool) → ((p q : ℕ) (v : Valuation) → oneIf (withInputs is p q v (inputVariable i)) ≡ bit p n) →
-        oneIf (cond t (withInputs is r (k / 2) (after (odd k))) (withInputs is (r / 2) k (after (odd r))) (inputVariable i))
-        ≡ bit r (cond (not t) (suc n) n)
-    by true ih = ih r (k / 2) _
-    by false ih = ih (r / 2) k _ ∙ sym (bit-suc r n)
-
-controllable-has :
-    (seen : List ℕ) (above below : List Input) (i : Input) (r k : ℕ) (val : Valuation) →
-    i .controllable ≡ true → Once seen (map inputVariable (above ++ (i ∷ below))) →
-    oneIf (withInputs (above ++ (i ∷ below)) r k val (inputVariable i)) ≡ bit k (inputsThat chosen above)
-unfolding withInputs inputsThat chosen
-controllable-has seen [] below i r k val e o =
-    rw e (kept-bit seen (inputVariable i) k val _ (inputs-agree (seen ++ (inputVariable i ∷ [])) below r (k / 2) _ (o .1)))
-controllable-has seen (a ∷ above) below i r k val e o =
-    by (a .controllable) (λ p q v. controllable-has (seen ++ (inputVariable a ∷ [])) above below i p q v e (o .1))
-  where
-    is : List Input
-    is = above ++ (i ∷ below)
-
-    n : ℕ
-    n = inputsThat chosen above
-
-    after : Bool → Valuation
-    after t = put (inputVariable a) t val
-
-    by :
-        (t : Bool) → ((p q : ℕ) (v : Valuation) → oneIf (withInputs is p q v (inputVariable i)) ≡ bit q n) →
-        oneIf (cond t (withInputs is r (k / 2) (after (odd k))) (withInputs is (r / 2) k (after (odd r))) (inputVariable i))
-        ≡ bit k (cond t (suc n) n)
-    by true ih = ih r (k / 2) _ ∙ sym (bit-suc k n)
-    by false ih = ih (r / 2) k _
+        (b t : Bool) (n : ℕ) → ((p q : ℕ) (u : Valuation) → oneIf (withInputs is p q u (inputVariable i)) ≡ bit (cond t q p) n) →
+        oneIf (cond b (withInputs is r (k / 2) (after (odd k))) (withInputs is (r / 2) k (after (odd r))) (inputVariable i))
+        ≡ bit (cond t k r) (cond (cond t b (not b)) (suc n) n)
+    by true true n ih = ih r (k / 2) _ ∙ sym (bit-suc k n)
+    by true false n ih = ih r (k / 2) _
+    by false true n ih = ih (r / 2) k _
+    by false false n ih = ih (r / 2) k _ ∙ sym (bit-suc r n)
 
 both : Valuation → Gate → Bool
 both val g = literalValue val (g .left) && literalValue val (g .right)
@@ -194,25 +174,19 @@ module _ (c : Circuit) (order : InOrder c) (s r k : ℕ) where
         m : member v ins ≡ true
         m = subst (λ (is : List Input). member v (map inputVariable is) ≡ true) (sym e) (named-member inputVariable above below i)
 
-    uncontrollable-settled : i .controllable ≡ false → oneIf (end (inputVariable i)) ≡ bit r (inputsThat other above)
-    uncontrollable-settled f = ap oneIf input-kept ∙ subst Has (sym e) (uncontrollable-has [] above below i r k none f) (latches-once .0)
+    input-settled : (t : Bool) → i .controllable ≡ t → oneIf (end (inputVariable i)) ≡ bit (cond t k r) (inputsThat (ofSort t) above)
+    input-settled t f = ap oneIf input-kept ∙ subst Has (sym e) (input-has [] above below i t r k none f) (latches-once .0)
       where
         Has : List Input → Type 0
-        Has is = Once [] (map inputVariable is) → oneIf (withInputs is r k none (inputVariable i)) ≡ bit r (inputsThat other above)
-
-    controllable-settled : i .controllable ≡ true → oneIf (end (inputVariable i)) ≡ bit k (inputsThat chosen above)
-    controllable-settled f = ap oneIf input-kept ∙ subst Has (sym e) (controllable-has [] above below i r k none f) (latches-once .0)
-      where
-        Has : List Input → Type 0
-        Has is = Once [] (map inputVariable is) → oneIf (withInputs is r k none (inputVariable i)) ≡ bit k (inputsThat chosen above)
+        Has is = Once [] (map inputVariable is) → oneIf (withInputs is r k none (inputVariable i)) ≡ bit (cond t k r) (inputsThat (ofSort t) above)
 
   -- the valuation of a step is settled
   pub valuation-settled : Settled c s r k (valuation c s r k)
-  unfolding valuation chosen other both
+  unfolding valuation ofSort both
   valuation-settled =
       record {
         latches = latch-settled;
-        uncontrollable = uncontrollable-settled;
-        controllable = controllable-settled;
+        uncontrollable = λ above below i e. input-settled above below i e false;
+        controllable = λ above below i e. input-settled above below i e true;
         gates = gate-has (ofInputsAndLatches c) (c .gates) latches (gates-once .1) (order .operands);
       }
