@@ -1,0 +1,5 @@
+pub mod Line
+pub mod Turns
+pub mod Listing
+pub mod Solved
+pub mod Front
