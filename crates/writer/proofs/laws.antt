@@ -5,7 +5,6 @@ pub mod Certified
 pub mod Bounds
 pub mod InParts
 pub mod Ranked
-pub mod Within
 pub mod RulesKept
 pub mod Passes
 pub mod OwnCertificate

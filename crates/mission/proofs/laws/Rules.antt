@@ -65,7 +65,7 @@ use Rattle.writer.specs.declared.Certified.{Certified}
 use Rattle.writer.proofs.laws.Decided.{certified-decided}
 use Rattle.writer.proofs.laws.Longest.{longest-certificate}
 use Rattle.writer.proofs.laws.OwnCertificate.{refused-certifies-nothing, certify-refused-exactly, room-certifies, own-region, own-reply, own-rank, own-attack}
-use Rattle.writer.proofs.laws.Within.{read-within}
+use Rattle.file.proofs.laws.Within.{read-within}
 
 -- RULE 1. Every input is met.
 --
