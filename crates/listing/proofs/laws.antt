@@ -3,3 +3,5 @@ pub mod Turns
 pub mod Listing
 pub mod Solved
 pub mod Front
+pub mod Place
+pub mod Longest

@@ -3,9 +3,12 @@
 use Prim.Native.Nat.{ℕ}
 use mathlib.Core.Bool.{Bool, cond}
 use mathlib.Core.List.{List, [], _∷_, _++_, flatMap}
+use lib.ListN.{length}
 use Rattle.bits.specs.Bytes.{ascii}
+use Rattle.circuit.specs.Answer.{WrittenAs, fitted}
 use Rattle.circuit.specs.Circuit.{Circuit}
 use Rattle.circuit.specs.Outcome.{Outcome, taken, refused}
+use Rattle.circuit.specs.declared.Written.{Written}
 use Rattle.file.specs.CircuitIn.{circuitIn}
 use Rattle.game.specs.Listing.{Listing, listingOf}
 use Rattle.text.specs.Written.{numberLine}
@@ -27,3 +30,7 @@ pageFor (refused number place) = refusalText number place
 
 unfoldable pub pageOf : (file : List ℕ) → List ℕ
 pageOf file = pageFor (circuitIn file)
+
+-- a writer's answer and its buffer, before and after, say that this page was written, or 10 where the buffer is shorter than it
+abbrev pub PageAs : (page before after : List ℕ) → Written → Type 0
+PageAs page before after r = WrittenAs (fitted page (length before)) before after r

@@ -9,11 +9,9 @@ use circuit::Written;
 use page::put_listing;
 use page::put_refusal;
 use solver::counts::Counts;
-ghost use lib.ListN.{length};
-ghost use Rattle.circuit.specs.Answer.{WrittenAs, fitted};
 ghost use Rattle.circuit.specs.Stored.{meant, solvable};
 ghost use Rattle.game.specs.Listing.{listingOf};
-ghost use Rattle.listing.specs.Page.{listingText, pageOf, refusalText};
+ghost use Rattle.listing.specs.Page.{PageAs, listingText, pageOf, refusalText};
 ghost use Rattle.listing.specs.SolvedText.{solvedText};
 
 // 10: lent buffer shorter than what must be written (01, "The numbers").
@@ -22,7 +20,7 @@ const NO_ROOM: u8 = 10;
 // Writes the page of a file at the front of the buffer: the listing of its circuit, or its refusal. Where the buffer is shorter than the
 // page, nothing is written.
 pub fn list(file: &[u8], out: &mut [u8]) -> Written
-    ensures { λ r. ⌜ WrittenAs (fitted (pageOf (now (file .entry))) (length (now (out .entry)))) (now (out .entry)) (now (out .exit)) r ⌝ }
+    ensures { λ r. ⌜ PageAs (pageOf (now (file .entry))) (now (out .entry)) (now (out .exit)) r ⌝ }
 {
     let read = file::read(file);
     let answer = read.answer;
@@ -34,7 +32,7 @@ pub fn list(file: &[u8], out: &mut [u8]) -> Written
 
 // The listing of a circuit. One with more inputs of a sort than a circuit may have counts as the empty circuit.
 fn list_circuit(c: Circuit, out: &mut [u8]) -> Written
-    ensures { λ r. ⌜ WrittenAs (fitted (listingText (listingOf (solvable (meant c)))) (length (now (out .entry)))) (now (out .entry)) (now (out .exit)) r ⌝ }
+    ensures { λ r. ⌜ PageAs (listingText (listingOf (solvable (meant c)))) (now (out .entry)) (now (out .exit)) r ⌝ }
 {
     let n = solver::counts::counted(c);
     let solved = solver::solve(c);
@@ -52,7 +50,7 @@ fn list_solved<'a>(
     attacks: &'a [u8],
     out: &mut [u8],
 ) -> Written
-    ensures { λ r. ⌜ WrittenAs (fitted (solvedText n (now (ranks .entry)) (now (replies .entry)) (now (attacks .entry))) (length (now (out .entry)))) (now (out .entry)) (now (out .exit)) r ⌝ }
+    ensures { λ r. ⌜ PageAs (solvedText n (now (ranks .entry)) (now (replies .entry)) (now (attacks .entry))) (now (out .entry)) (now (out .exit)) r ⌝ }
 {
     let mut short = [0u8; 1];
     if put_listing(&mut short, n, ranks, replies, attacks) <= out.len() {
@@ -66,7 +64,7 @@ fn list_solved<'a>(
 }
 
 fn list_refusal(refusal: Refusal, out: &mut [u8]) -> Written
-    ensures { λ r. ⌜ WrittenAs (fitted (refusalText (refusal .number) (refusal .place)) (length (now (out .entry)))) (now (out .entry)) (now (out .exit)) r ⌝ }
+    ensures { λ r. ⌜ PageAs (refusalText (refusal .number) (refusal .place)) (now (out .entry)) (now (out .exit)) r ⌝ }
 {
     let mut short = [0u8; 1];
     if put_refusal(&mut short, refusal) <= out.len() {

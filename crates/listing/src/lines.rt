@@ -1,6 +1,5 @@
 // The lines of a listing (01, "Listings to compare"). Every writer takes the place where its bytes go and answers the place behind them;
 // in a buffer that is too short it counts. The bounds on places only keep their sums from wrapping.
-use crate::page::is_inside;
 use bits::bytes::byte_at;
 use decimal::put_decimal;
 use keeping::rank_list::rank_at;
@@ -58,6 +57,13 @@ fn put_reply_line<'a>(
     let head = put_field(out, own, one_if(is_inside(ranks, s)));
     let row = put_row(out, head, replies, s * readings, readings);
     row + put_bytes(out, row, b"\n")
+}
+
+// Whether a state is in the region: its rank is 0.
+pub(crate) fn is_inside(ranks: &[u16], s: usize) -> bool
+    ensures { λ r. ⌜ r ≡ inside (now (ranks .entry)) s ⌝ }
+{
+    rank_at(ranks, s) == 0
 }
 
 fn one_if(b: bool) -> u64

@@ -1,5 +1,6 @@
 // The pages (01, "Listings to compare"), put at the front of a buffer. Every writer answers the place behind its bytes; in a buffer that
 // is too short it counts.
+use crate::lines::is_inside;
 use crate::lines::put_attacks;
 use crate::lines::put_field;
 use crate::lines::put_number;
@@ -7,14 +8,12 @@ use crate::lines::put_replies;
 use crate::lines::put_three;
 use circuit::Refusal;
 use circuit::counts::numbers;
-use keeping::rank_list::rank_at;
 use put::put_bytes;
 use solver::counts::Counts;
-ghost use mathlib.Core.Path.{_≡_};
 ghost use Prim.Native.Nat.{_≤_};
 ghost use Rattle.bits.specs.Wrote.{Wrote};
 ghost use Rattle.listing.specs.Page.{refusalText, verdictWord};
-ghost use Rattle.listing.specs.SolvedText.{inside, solvedText};
+ghost use Rattle.listing.specs.SolvedText.{solvedText};
 
 // The rank of state 0 is the verdict.
 pub(crate) fn put_listing<'a>(
@@ -59,13 +58,6 @@ fn put_verdict(out: &mut [u8], realizable: bool) -> usize
     } else {
         put_bytes(out, 0, b"unrealizable ")
     }
-}
-
-// Whether a state is in the region: its rank is 0.
-pub(crate) fn is_inside(ranks: &[u16], s: usize) -> bool
-    ensures { λ r. ⌜ r ≡ inside (now (ranks .entry)) s ⌝ }
-{
-    rank_at(ranks, s) == 0
 }
 
 // `refused`, number, place.

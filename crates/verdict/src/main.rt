@@ -5,8 +5,8 @@ use libc::STDIN_FILENO;
 ghost use mathlib.Core.Path.{_≡_};
 ghost use lib.ListN.{length};
 
-// The longest page (listing, `longest-page`): verdict and counts; per state its number, in or out, and a reply of at most three digits for
-// each reading, with what parts them.
+// Enough for every page (listing, `longest-page`): verdict and counts; per state its number, in or out, and a reply of at most three digits
+// for each reading, with what parts them.
 const PAGE: usize = 18 + Circuit::STATES * 7 + Circuit::REPLIES * 4;
 
 fn main() {

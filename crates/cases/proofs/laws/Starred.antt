@@ -1,7 +1,6 @@
 -- The starred cases hold: one claim over all rows, computed from the definitions. Assumes nothing.
 use mathlib.Core.Path.{_≡_, refl}
 use mathlib.Core.List.{map, flatMap}
-use Rattle.circuit.specs.Outcome.{Outcome}
 use Rattle.bits.specs.Bit.{bit, odd, oneIf}
 use Rattle.bits.specs.ByteBit.{byteBit}
 use Rattle.bits.specs.Bytes.{sameBytes, startsWith}

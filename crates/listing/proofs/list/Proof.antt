@@ -26,7 +26,8 @@ returns : tie.Need-returns
 returns c =
     let a = c .before .before .before .before .before .before .before .before .before .before .args in
     let r = c .before .before .before .before .before .before .before .read in
-    front-refused (a .file .now) (r .result) (r .ensures) (a .out .now) _ _ _ (c .before .before .before .before .before .answer .given .1) (c .before .before .list-refusal .ensures)
+    front-refused (a .file .now) (r .result) (r .ensures) (a .out .now) _ _ _ (c .before .before .before .before .before .answer .given .1)
+    (c .before .before .list-refusal .ensures)
 
 same-length-2 : tie.Need-same-length-2
 same-length-2 c = search needs
@@ -35,7 +36,8 @@ returns-2 : tie.Need-returns-2
 returns-2 c =
     let a = c .before .before .before .before .before .before .before .before .before .args in
     let r = c .before .before .before .before .before .before .read in
-    front-listed (a .file .now) (r .result) (r .ensures) (a .out .now) _ _ (c .before .before .before .before .enum-told .given .1) (c .before .before .list-circuit .ensures)
+    front-listed (a .file .now) (r .result) (r .ensures) (a .out .now) _ _ (c .before .before .before .before .enum-told .given .1)
+    (c .before .before .list-circuit .ensures)
 
 pub list-spec : {M : Type 1} → statement M
 list-spec =

@@ -29,10 +29,11 @@ same-length c = search needs
 
 returns : tie.Need-returns
 returns c =
-    let a = c .before .before .before .before .before .before .before .before .before .before .before .before .before .args in
-    let n = c .before .before .before .before .before .before .before .before .before .before .before .counted in
     let s = c .before .before .before .before .before .before .before .before .before .before .solve in
-    same-written (solved-is-listing (solvable (meant (a .c))) (n .result) (s .result) (n .ensures .0) (n .ensures .1 .0) (n .ensures .1 .1) (s .ensures)) (c .before .before .list-solved .ensures)
+    let n = c .before .before .before .before .before .before .before .before .before .before .before .counted in
+    let a = c .before .before .before .before .before .before .before .before .before .before .before .before .before .args in
+    same-written (solved-is-listing (solvable (meant (a .c))) (n .result) (s .result) (n .ensures .0) (n .ensures .1 .0) (n .ensures .1 .1) (s .ensures))
+    (c .before .before .list-solved .ensures)
 
 pub list-circuit-spec : {M : Type 1} → statement M
 list-circuit-spec =

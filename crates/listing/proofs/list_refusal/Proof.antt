@@ -21,7 +21,8 @@ same-length c = search needs
 returns : tie.Need-returns
 returns c =
     let a = c .before .before .before .before .before .before .before .before .before .args in
-    written-bytes (refusalText (a .refusal .number) (a .refusal .place)) (a .out .now) _ _ (omega (arith, c .before .before .before .before .before .before .put-refusal .ensures .answer)) (c .before .before .put-refusal2 .ensures)
+    written-bytes (refusalText (a .refusal .number) (a .refusal .place)) (a .out .now) _ _
+    (omega (arith, c .before .before .before .before .before .before .put-refusal .ensures .answer)) (c .before .before .put-refusal2 .ensures)
 
 returns-2 : tie.Need-returns-2
 returns-2 c =

@@ -21,12 +21,14 @@ same-length c = search needs
 returns : tie.Need-returns
 returns c =
     let a = c .before .before .before .before .before .before .before .before .before .before .before .before .args in
-    written-bytes (solvedText (a .n) (a .ranks .now) (a .replies .now) (a .attacks .now)) (a .out .now) _ _ (omega (arith, c .before .before .before .before .before .before .put-listing .ensures .answer)) (c .before .before .put-listing2 .ensures)
+    written-bytes (solvedText (a .n) (a .ranks .now) (a .replies .now) (a .attacks .now)) (a .out .now) _ _
+    (omega (arith, c .before .before .before .before .before .before .put-listing .ensures .answer)) (c .before .before .put-listing2 .ensures)
 
 returns-2 : tie.Need-returns-2
 returns-2 c =
     let a = c .before .before .before .before .before .before .before .before .args in
-    written-refused (solvedText (a .n) (a .ranks .now) (a .replies .now) (a .attacks .now)) (a .out .now) (omega (arith, c .before .before .put-listing .ensures .answer))
+    written-refused (solvedText (a .n) (a .ranks .now) (a .replies .now) (a .attacks .now)) (a .out .now)
+    (omega (arith, c .before .before .put-listing .ensures .answer))
 
 pub list-solved-spec : {M : Type 1} → statement M
 list-solved-spec =

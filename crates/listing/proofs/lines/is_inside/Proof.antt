@@ -1,11 +1,11 @@
--- `listing::page::is_inside` meets its contract: a state is in the region if its rank is 0. Assumes nothing.
+-- `listing::lines::is_inside` meets its contract: a state is in the region if its rank is 0. Assumes nothing.
 use Prim.Native.Nat.{ℕ}
 use mathlib.Core.Path.{ap}
 use lib.Dec.{eqb}
 use Rattle.listing.specs.SolvedText.{inside}
 use borrow.Author.Needs.{needs}
-use Rattle.listing.proofs.page.is_inside.Statement.{statement}
-use Rattle.listing.proofs.page.is_inside.Tie as tie
+use Rattle.listing.proofs.lines.is_inside.Statement.{statement}
+use Rattle.listing.proofs.lines.is_inside.Tie as tie
 
 rank-at-requires : tie.Need-rank-at-requires
 rank-at-requires c κs = search needs

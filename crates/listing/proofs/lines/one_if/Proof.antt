@@ -1,5 +1,4 @@
 -- `listing::lines::one_if` meets its contract by its two cases. Assumes nothing.
-use mathlib.Core.Path.{sym, ap}
 use Rattle.bits.specs.Bit.{oneIf}
 use borrow.Author.Needs.{needs}
 use Rattle.listing.proofs.lines.one_if.Statement.{statement}

@@ -26,7 +26,8 @@ returns : tie.Need-returns
 returns c =
     let a = c .before .before .before .before .before .before .before .before .before .args in
     let w = c .before .before .put-three .ensures in
-    (wrote-attack (a .ranks .now) (a .attacks .now) (a .s) (c .before .before .before .before .before .rank-at .ensures) (c .before .before .before .before .byte-at .ensures) (w .0), w .1)
+    let rank = c .before .before .before .before .before .rank-at .ensures in
+    (wrote-attack (a .ranks .now) (a .attacks .now) (a .s) rank (c .before .before .before .before .byte-at .ensures) (w .0), w .1)
 
 pub put-attack-line-spec : {M : Type 1} → statement M
 put-attack-line-spec =

@@ -3,7 +3,6 @@ use Prim.Native.Nat.{_-_}
 use native.Mathlib.Omega.{arith}
 use Rattle.listing.specs.SolvedText.{attackText}
 use Rattle.listing.proofs.laws.Turns.{Turns, turns-start, turns-more, turns-end}
-use borrow.Author.Needs.{needs}
 use Rattle.listing.proofs.lines.put_attacks.Statement.{statement}
 use Rattle.listing.proofs.lines.put_attacks.Tie as tie
 
@@ -30,7 +29,8 @@ loop-again : tie.Need-loop-again Inv-loop μ-loop
 loop-again c =
     let a = c .before .before .before .before .before .before .before .before .before .args in
     let w = c .before .before .put-attack-line .ensures in
-    turns-more (attackText (a .ranks .now) (a .attacks .now)) 63 (a .states) (a .at) (c .before .before .before .before .before .loop .inv) (c .before .before .before .before .loop-test .taken) (w .0) (w .1)
+    turns-more (attackText (a .ranks .now) (a .attacks .now)) 63 (a .states) (a .at) (c .before .before .before .before .before .loop .inv)
+    (c .before .before .before .before .loop-test .taken) (w .0) (w .1)
 
 same-length : tie.Need-same-length Inv-loop μ-loop
 same-length c = c .before .loop .inv .wrote .long

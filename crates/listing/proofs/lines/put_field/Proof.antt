@@ -25,7 +25,8 @@ returns : tie.Need-returns
 returns c =
     let space = c .before .before .before .before .before .before .put-bytes .ensures in
     let number = c .before .before .put-number .ensures in
-    (wrote-field (c .before .before .before .before .before .before .before .before .before .before .args .n) (wrote-put (omega (arith, space .0)) (space .1)) (number .0), omega (arith, space .0, number .1))
+    let n = c .before .before .before .before .before .before .before .before .before .before .args .n in
+    (wrote-field n (wrote-put (omega (arith, space .0)) (space .1)) (number .0), omega (arith, space .0, number .1))
 
 pub put-field-spec : {M : Type 1} → statement M
 put-field-spec =

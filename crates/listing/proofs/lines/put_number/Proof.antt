@@ -12,16 +12,18 @@ put-decimal-requires : tie.Need-put-decimal-requires
 put-decimal-requires c κs = search needs
 
 add-result : tie.Need-add-result
-add-result c = omega (arith, length-decimal-most 19 (c .before .before .before .before .before .args .n) (omega arith), c .before .before .put-decimal .ensures .0)
+add-result c =
+    omega (arith, length-decimal-most 19 (c .before .before .before .before .before .args .n) (omega arith), c .before .before .put-decimal .ensures .0)
 
 same-length : tie.Need-same-length
 same-length c = search needs
 
 returns : tie.Need-returns
 returns c =
-    let a = c .before .before .before .before .before .args in
     let d = c .before .before .put-decimal .ensures in
-    (wrote-put (ap (λ (k : ℕ). a .at + k) (d .0)) (d .1), omega (arith, length-decimal-most 19 (c .before .before .before .before .before .args .n) (omega arith), d .0))
+    let start = c .before .before .before .before .before in
+    let few = length-decimal-most 19 (start .args .n) (omega arith) in
+    (wrote-put (ap (λ (k : ℕ). start .args .at + k) (d .0)) (d .1), omega (arith, few, d .0))
 
 pub put-number-spec : {M : Type 1} → statement M
 put-number-spec = tie.close (tie.spec put-decimal-requires add-result same-length returns)

@@ -3,7 +3,6 @@ use Prim.Native.Nat.{_-_, _^_}
 use native.Mathlib.Omega.{arith}
 use Rattle.listing.specs.SolvedText.{replyText}
 use Rattle.listing.proofs.laws.Turns.{Turns, turns-start, turns-more, turns-end}
-use borrow.Author.Needs.{needs}
 use Rattle.listing.proofs.lines.put_replies.Statement.{statement}
 use Rattle.listing.proofs.lines.put_replies.Tie as tie
 
@@ -30,7 +29,8 @@ loop-again : tie.Need-loop-again Inv-loop μ-loop
 loop-again c =
     let a = c .before .before .before .before .before .before .before .before .before .args in
     let w = c .before .before .put-reply-line .ensures in
-    turns-more (replyText (a .ranks .now) (a .replies .now) (a .readings)) (2 ^ 15) (a .states) (a .at) (c .before .before .before .before .before .loop .inv) (c .before .before .before .before .loop-test .taken) (w .0) (w .1)
+    turns-more (replyText (a .ranks .now) (a .replies .now) (a .readings)) (2 ^ 15) (a .states) (a .at)
+    (c .before .before .before .before .before .loop .inv) (c .before .before .before .before .loop-test .taken) (w .0) (w .1)
 
 same-length : tie.Need-same-length Inv-loop μ-loop
 same-length c = c .before .loop .inv .wrote .long

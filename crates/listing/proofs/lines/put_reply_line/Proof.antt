@@ -19,12 +19,17 @@ put-field-requires : tie.Need-put-field-requires
 put-field-requires c κs = search needs
 
 mul-put-row : tie.Need-mul-put-row
-mul-put-row c = let a = c .before .before .before .before .before .before .before .before .before .before .before .before .before .before .args in omega (arith, few-places (a .s) (a .readings) (c .before .before .before .before .before .before .before .before .before .before .before .before .before .before .pre .1 .1) (c .before .before .before .before .before .before .before .before .before .before .before .before .before .before .pre .1 .0))
+mul-put-row c =
+    let start = c .before .before .before .before .before .before .before .before .before .before .before .before .before .before in
+    omega (arith, few-places (start .args .s) (start .args .readings) (start .pre .1 .1) (start .pre .1 .0))
 
 put-row-requires : tie.Need-put-row-requires
 put-row-requires c κs =
-    let a = c .before .before .before .before .before .before .before .before .before .before .before .before .before .before .args in
-    (omega (arith, c .before .before .before .before .before .before .before .before .before .put-number .ensures .1, c .before .before .before .put-field .ensures .1), (omega (arith, few-places (a .s) (a .readings) (c .before .before .before .before .before .before .before .before .before .before .before .before .before .before .pre .1 .1) (c .before .before .before .before .before .before .before .before .before .before .before .before .before .before .pre .1 .0)), c .before .before .before .before .before .before .before .before .before .before .before .before .before .before .pre .1 .0))
+    let head = c .before .before .before .put-field .ensures in
+    let own = c .before .before .before .before .before .before .before .before .before .put-number .ensures in
+    let start = c .before .before .before .before .before .before .before .before .before .before .before .before .before .before in
+    let few = few-places (start .args .s) (start .args .readings) (start .pre .1 .1) (start .pre .1 .0) in
+    (omega (arith, own .1, head .1), (omega (arith, few), start .pre .1 .0))
 
 slice-aggregate-put-bytes : tie.Need-slice-aggregate-put-bytes
 slice-aggregate-put-bytes c = search needs
@@ -40,13 +45,17 @@ same-length c = search needs
 
 returns : tie.Need-returns
 returns c =
-    let a = c .before .before .before .before .before .before .before .before .before .before .before .before .before .before .before .before .before .before .before .before .before .before .args in
-    let own = c .before .before .before .before .before .before .before .before .before .before .before .before .before .before .before .before .before .put-number .ensures in
-    let head = c .before .before .before .before .before .before .before .before .before .before .before .put-field .ensures in
+    let end = c .before .before .put-bytes .ensures in
     let row = c .before .before .before .before .before .before .before .put-row .ensures in
-    let end = c .before .before .put-bytes .ensures in (
-      wrote-replies (a .ranks .now) (a .replies .now) (a .readings) (a .s) (c .before .before .before .before .before .before .before .before .before .before .before .before .before .is-inside .ensures) (c .before .before .before .before .before .before .before .before .before .before .before .before .one-if .ensures) (own .0) (head .0) (row .0) (wrote-put (omega (arith, end .0)) (end .1)),
-      omega (arith, own .1, head .1, row .1, end .0, c .before .before .before .before .before .before .before .before .before .before .before .before .before .before .before .before .before .before .before .before .before .before .pre .1 .0),
+    let here = c .before .before .before .before .before .before .before .before .before .before .before in
+    let head = here .put-field .ensures in
+    let within = here .before .before .is-inside .ensures in
+    let own = here .before .before .before .before .before .before .put-number .ensures in
+    let start = here .before .before .before .before .before .before .before .before .before .before .before in
+    let a = start .args in (
+      wrote-replies (a .ranks .now) (a .replies .now) (a .readings) (a .s) within (here .before .one-if .ensures) (own .0) (head .0) (row .0)
+          (wrote-put (omega (arith, end .0)) (end .1)),
+      omega (arith, own .1, head .1, row .1, end .0, start .pre .1 .0),
     )
 
 pub put-reply-line-spec : {M : Type 1} → statement M

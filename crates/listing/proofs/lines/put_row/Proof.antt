@@ -4,7 +4,6 @@ use native.Mathlib.Omega.{arith}
 use lib.ListN.{getD}
 use Rattle.listing.specs.SolvedText.{field}
 use Rattle.listing.proofs.laws.Turns.{Turns, turns-start, turns-more, turns-end}
-use borrow.Author.Needs.{needs}
 use Rattle.listing.proofs.lines.put_row.Statement.{statement}
 use Rattle.listing.proofs.lines.put_row.Tie as tie
 
@@ -34,7 +33,8 @@ loop-again : tie.Need-loop-again Inv-loop μ-loop
 loop-again c =
     let a = c .before .before .before .before .before .before .before .before .args in
     let w = c .before .before .put-reply .ensures in
-    turns-more (λ i. field (getD (a .replies .now) (a .first + i) 0)) 21 (a .n) (a .at) (c .before .before .before .before .before .loop .inv) (c .before .before .before .before .loop-test .taken) (w .0) (w .1)
+    turns-more (λ i. field (getD (a .replies .now) (a .first + i) 0)) 21 (a .n) (a .at) (c .before .before .before .before .before .loop .inv)
+    (c .before .before .before .before .loop-test .taken) (w .0) (w .1)
 
 same-length : tie.Need-same-length Inv-loop μ-loop
 same-length c = c .before .loop .inv .wrote .long

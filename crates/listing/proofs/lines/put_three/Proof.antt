@@ -29,11 +29,12 @@ same-length c = search needs
 
 returns : tie.Need-returns
 returns c =
-    let a = c .before .before .before .before .before .before .before .before .before .before .before .before .before .before .before .before .before .before .args in
-    let first = c .before .before .before .before .before .before .before .before .before .before .before .before .before .before .before .put-number .ensures in
-    let second = c .before .before .before .before .before .before .before .before .before .before .before .put-field .ensures in
+    let end = c .before .before .put-bytes .ensures in
     let third = c .before .before .before .before .before .before .before .put-field2 .ensures in
-    let end = c .before .before .put-bytes .ensures in (
+    let here = c .before .before .before .before .before .before .before .before .before .before .before in
+    let second = here .put-field .ensures in
+    let first = here .before .before .before .before .put-number .ensures in
+    let a = here .before .before .before .before .before .before .before .args in (
       wrote-three (a .a) (a .b) (a .c) (first .0) (second .0) (third .0) (wrote-put (omega (arith, end .0)) (end .1)),
       omega (arith, first .1, second .1, third .1, end .0),
     )

@@ -35,11 +35,12 @@ same-length c = search needs
 
 returns : tie.Need-returns
 returns c =
-    let a = c .before .before .before .before .before .before .before .before .before .before .before .before .before .before .before .before .before .before .before .before .args in
-    let word = c .before .before .before .before .before .before .before .before .before .before .before .before .before .before .before .before .put-bytes .ensures in
-    let number = c .before .before .before .before .before .before .before .before .before .before .before .put-number .ensures in
-    let place = c .before .before .before .before .before .before .before .put-field .ensures in
     let end = c .before .before .put-bytes2 .ensures in
+    let place = c .before .before .before .before .before .before .before .put-field .ensures in
+    let here = c .before .before .before .before .before .before .before .before .before .before .before in
+    let number = here .put-number .ensures in
+    let word = here .before .before .before .before .before .put-bytes .ensures in
+    let a = here .before .before .before .before .before .before .before .before .before .args in
     wrote-refusal (a .refusal .number) (a .refusal .place) (wrote-put (omega (arith, word .0)) (word .1))
     (wrote-two (a .refusal .number) (a .refusal .place) (number .0) (place .0) (wrote-put (omega (arith, end .0)) (end .1)))
 
