@@ -1,3 +1,4 @@
 pub mod Read
 pub mod Exact
 pub mod Numbered
+pub mod Within

@@ -6,7 +6,6 @@ pub mod Bounds
 pub mod InParts
 pub mod Verdict
 pub mod Ranked
-pub mod Within
 pub mod RulesKept
 pub mod Passes
 pub mod OwnCertificate

@@ -1,7 +1,6 @@
 -- The starred cases hold: one claim over all rows, computed from the definitions. Assumes nothing.
 use mathlib.Core.Path.{_≡_, refl}
 use mathlib.Core.List.{map, flatMap}
-use Rattle.circuit.specs.Outcome.{Outcome}
 use Rattle.bits.specs.Bit.{bit, odd, oneIf}
 use Rattle.bits.specs.ByteBit.{byteBit}
 use Rattle.bits.specs.Bytes.{sameBytes, startsWith}
@@ -15,12 +14,13 @@ use Rattle.circuit.specs.Outcome.{refuseIf}
 use Rattle.circuit.specs.Reset.{isReset}
 use Rattle.text.specs.Header.{headerNumbers, headerOf, withinLimits}
 use Rattle.text.specs.Line.{before, lines, prepend, fields, separators, numbersOf}
-use Rattle.text.specs.Number.{isDigit, run, isNumeral, decimalValue, number}
+use Rattle.text.specs.Number.{isDigit, run, isNumeral, decimalValue, number, decimalWithin, decimal}
 use Rattle.text.specs.Read.{latchOf, gateOf, orBadHeader, linesRead, fileRead, circuitRead}
 use Rattle.text.specs.Rules.{firstOf, badOwn, isDefined, unknown, inputRule, latchRule, outputRule, gateRule}
 use Rattle.text.specs.Section.{judged, withRow, section, onward, used}
 use Rattle.text.specs.Symbol.{positions, isNameByte, isName, names, symbolAt, symbolOf, isComment, orBadSymbol, symbolLines, isControllableName, isControllable}
 use Rattle.text.specs.TextFile.{circuitOf}
+use Rattle.text.specs.Written.{numberLine}
 use Rattle.step.specs.Step.{errorOf, nextOf, step}
 use Rattle.step.specs.Value.{literalValue, put, withInputs, withLatches, withGates, valuation}
 use Rattle.game.specs.Attack.{attack, attackBroken}
@@ -36,12 +36,13 @@ use Rattle.records.specs.RegionBits.{regionLength, holdsState, unusedBitSet, re
 use Rattle.records.specs.ReplyBytes.{replyLength, storedReply, replyBytes}
 use Rattle.records.specs.Tables.{thirdOf, secondOf, firstOf as firstRecord, tablesOf, circuitPart}
 use Rattle.file.specs.CircuitIn.{circuitIn}
+use Rattle.listing.specs.Page.{verdictWord, listingText, refusalText, pageFor, pageOf}
 use Rattle.checker.specs.Check.{orBadShape, tablesChecked, checkOf}
 use Rattle.checker.specs.Rules.{badReplyTables, badAttackTable, resetOutside, resetUnranked, brokenReply, brokenAttack}
 use Rattle.writer.specs.Certificate.{replyCertificate, attackCertificate, certificateOf, certified}
-use Rattle.cases.specs.Starred.{solved, answerTo}
-use Rattle.cases.specs.Starred.{Row, Solved, starred}
+use Rattle.cases.specs.Starred.{lengthsOf, answerTo}
+use Rattle.cases.specs.Starred.{Row, starred}
 
 pub starred-hold : map (λ (row : Row). answerTo (row .asked)) starred ≡ map (λ (row : Row). row .expected) starred
-unfolding flatMap bit odd oneIf byteBit sameBytes startsWith digits sum among member least any every table inputsThat latchCount uncontrollableCount controllableCount variable inverted constant mayDefine tooLarge refuseIf isReset headerNumbers headerOf withinLimits before lines prepend fields separators numbersOf isDigit run isNumeral decimalValue number latchOf gateOf orBadHeader linesRead fileRead circuitRead firstOf badOwn isDefined unknown inputRule latchRule outputRule gateRule judged withRow section onward used positions isNameByte isName names symbolAt symbolOf isComment orBadSymbol symbolLines isControllableName isControllable circuitOf tooMany errorOf nextOf step literalValue put withInputs withLatches withGates valuation attack attackBroken circuitGame isRealizable keeps answered safe replyLine attackLine listingOf notRanked defeats defeated round ranksAfter rank inRegion reply replyBroken realizable attackLength storedRank storedAttack attackBytes recordOf contentsLength split regionLength holdsState unusedBitSet regionBytes replyLength storedReply replyBytes thirdOf secondOf firstRecord tablesOf circuitPart circuitIn orBadShape tablesChecked checkOf badReplyTables badAttackTable resetOutside resetUnranked brokenReply brokenAttack replyCertificate attackCertificate certificateOf certified solved answerTo
+unfolding flatMap bit odd oneIf byteBit sameBytes startsWith digits sum among member least any every table inputsThat latchCount uncontrollableCount controllableCount variable inverted constant mayDefine tooLarge refuseIf isReset headerNumbers headerOf withinLimits before lines prepend fields separators numbersOf isDigit run isNumeral decimalValue number latchOf gateOf orBadHeader linesRead fileRead circuitRead firstOf badOwn isDefined unknown inputRule latchRule outputRule gateRule judged withRow section onward used positions isNameByte isName names symbolAt symbolOf isComment orBadSymbol symbolLines isControllableName isControllable circuitOf tooMany errorOf nextOf step literalValue put withInputs withLatches withGates valuation attack attackBroken circuitGame isRealizable keeps answered safe replyLine attackLine listingOf notRanked defeats defeated round ranksAfter rank inRegion reply replyBroken realizable attackLength storedRank storedAttack attackBytes recordOf contentsLength split regionLength holdsState unusedBitSet regionBytes replyLength storedReply replyBytes thirdOf secondOf firstRecord tablesOf circuitPart circuitIn orBadShape tablesChecked checkOf badReplyTables badAttackTable resetOutside resetUnranked brokenReply brokenAttack replyCertificate attackCertificate certificateOf certified decimalWithin decimal numberLine verdictWord listingText refusalText pageFor pageOf lengthsOf answerTo
 starred-hold = refl

@@ -63,6 +63,7 @@ use Rattle.file.specs.WriterRow.{WriterRow}
 use Rattle.file.proofs.laws.Exact.{reader-refused-exactly}
 use Rattle.file.proofs.laws.Numbered.{file-numbered, writer-numbered as row-numbered}
 use Rattle.file.proofs.laws.Read.{taken-means}
+use Rattle.file.proofs.laws.Within.{read-within}
 use Rattle.printer.specs.FilePrinted.{filePrinted}
 use Rattle.printer.proofs.laws.ReadsBack.{print-reads-back, count-refused-exactly, print-refused-exactly}
 use Rattle.checker.specs.Answer.{Starts, ofReplies, ofAttacks, answerOf, checkedOutcome}
@@ -78,7 +79,6 @@ use Rattle.writer.specs.declared.Certified.{Certified}
 use Rattle.writer.proofs.laws.Decided.{certified-decided}
 use Rattle.writer.proofs.laws.Longest.{longest-certificate}
 use Rattle.writer.proofs.laws.OwnCertificate.{refused-certifies-nothing, verdict-refused-exactly, certify-refused-exactly, room-certifies, own-bit, own-region, own-reply, own-rank, own-attack}
-use Rattle.writer.proofs.laws.Within.{read-within}
 use Rattle.capi.specs.Plain.{readAnswer, stepAnswer, certifyAnswer, checkAnswer, printAnswer}
 use Rattle.capi.specs.Stepped.{fileStepped}
 use Rattle.capi.specs.declared.CertifyAnswer.{CertifyAnswer}

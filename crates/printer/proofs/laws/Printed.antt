@@ -16,11 +16,12 @@ use Rattle.circuit.specs.Circuit.{Input, Latch, Gate}
 use Rattle.circuit.specs.Limits.{base}
 use Rattle.circuit.specs.Stored.{literalOf, inputsOf, latchesOf, gatesOf, lent, meant}
 use Rattle.circuit.specs.declared.Circuit.{Circuit as Value}
+use Rattle.decimal.proofs.laws.InTurn.{flat-map-table}
 use Rattle.text.specs.Header.{word}
 use Rattle.text.specs.Printed.{printedSymbols, printedFile, printed}
 use Rattle.text.specs.Written.{numberLine, symbolLine, commentText, textOf}
 use Rattle.printer.specs.Line.{inputLine, latchLine, gateLine, nameLine}
-use Rattle.printer.proofs.laws.Tables.{flat-map-table, flat-map-map, symbols-table, symbolText}
+use Rattle.printer.proofs.laws.Tables.{flat-map-map, symbols-table, symbolText}
 
 -- what lies below a length that is taken is taken
 kept : (n : ℕ) (l : List ℕ) (i : ℕ) → i < length (take n l) → getD (take n l) i 0 ≡ getD l i 0

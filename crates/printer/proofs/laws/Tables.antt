@@ -1,4 +1,4 @@
--- The texts of the rows of a table stand one behind the other. Assumes nothing.
+-- The symbols of the controllable inputs, input by input. Assumes nothing.
 use Prim.Native.Nat.{ℕ, zero, suc, _+_}
 use native.Mathlib.Omega.{arith}
 use native.Mathlib.Nat.{zero-add}
@@ -10,30 +10,16 @@ use Rattle.below.specs.Table.{table}
 use Rattle.below.proofs.laws.Table.{length-table}
 use Rattle.bits.specs.InTurn.{inTurn}
 use Rattle.circuit.specs.Circuit.{Input}
+use Rattle.decimal.proofs.laws.InTurn.{flat-map-append}
 use Rattle.text.specs.Number.{decimal}
 use Rattle.text.specs.Printed.{printedSymbols}
 use Rattle.text.specs.Symbol.{Symbol, inputLetter, prefix}
 use Rattle.text.specs.Written.{symbolLine}
 
-module _ {A : Type 0} where
-  pub flat-map-append : (f : A → List ℕ) (xs ys : List A) → flatMap f (xs ++ ys) ≡ flatMap f xs ++ flatMap f ys
-  unfolding flatMap
-  flat-map-append f [] ys = refl
-  flat-map-append f (x ∷ xs) ys = ap (λ (l : List ℕ). f x ++ l) (flat-map-append f xs ys) ∙ sym (append-assoc (f x) (flatMap f xs) (flatMap f ys))
-
-  flat-map-one : (f : A → List ℕ) (x : A) → flatMap f (x ∷ []) ≡ f x
-  unfolding flatMap
-  flat-map-one f x = append-nil (f x)
-
-  pub flat-map-table : (f : A → List ℕ) (row : ℕ → A) (n : ℕ) → flatMap f (table row n) ≡ inTurn (λ i. f (row i)) n
-  unfolding table inTurn flatMap
-  flat-map-table f row zero = refl
-  flat-map-table f row (suc n) = flat-map-append f (table row n) (row n ∷ []) ∙ ap₂ {C = List ℕ} (λ xs ys. xs ++ ys) (flat-map-table f row n) (flat-map-one f (row n))
-
-  pub flat-map-map : (f : ℕ → List ℕ) (g : A → ℕ) (xs : List A) → flatMap f (map g xs) ≡ flatMap (λ x. f (g x)) xs
-  unfolding flatMap
-  flat-map-map f g [] = refl
-  flat-map-map f g (x ∷ xs) = ap (λ (l : List ℕ). f (g x) ++ l) (flat-map-map f g xs)
+pub flat-map-map : {A : Type 0} (f : ℕ → List ℕ) (g : A → ℕ) (xs : List A) → flatMap f (map g xs) ≡ flatMap (λ x. f (g x)) xs
+unfolding flatMap
+flat-map-map f g [] = refl
+flat-map-map f g (x ∷ xs) = ap (λ (l : List ℕ). f (g x) ++ l) (flat-map-map f g xs)
 
 -- the symbol of an input at a position, if it is controllable
 symbolsOf : ℕ → Input → List Symbol

@@ -13,7 +13,7 @@ use Rattle.file.specs.CircuitIn.{circuitIn}
 use Rattle.game.specs.CircuitGame.{isRealizable}
 use Rattle.writer.specs.Certificate.{certificateOf}
 use Rattle.writer.proofs.laws.Length.{certificate-length}
-use Rattle.writer.proofs.laws.Within.{Within, read-within}
+use Rattle.file.proofs.laws.Within.{Within, read-within}
 
 pub longest-certificate : (file : List ℕ) (c : Circuit) → circuitIn file ≡ taken c → length (certificateOf file c) ≤ 49298
 longest-certificate file c e = subst (λ (n : ℕ). n ≤ 49298) (sym (certificate-length file c)) (by (isRealizable c))

@@ -41,7 +41,7 @@ use Rattle.writer.specs.Answer.{Verdict, certifiedOutcome, certificateFo
 use Rattle.writer.specs.Certificate.{certificateOf}
 use Rattle.writer.proofs.laws.Passes.{ownTables, written-passes, buffer-holds}
 use Rattle.writer.proofs.laws.RulesKept.{ownRegion, ownReplies, ownAttacks, holds-is, stored-is, rank-is, attack-is}
-use Rattle.writer.proofs.laws.Within.{read-within}
+use Rattle.file.proofs.laws.Within.{read-within}
 
 -- what is told of bytes that are written
 abbrev told : Circuit → Outcome (List ℕ) → Outcome Verdict

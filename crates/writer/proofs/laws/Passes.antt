@@ -39,7 +39,7 @@ use Rattle.writer.specs.Answer.{Verdict, certificateFor, verdictFor}
 use Rattle.writer.specs.Certificate.{replyCertificate, attackCertificate, certificateOf}
 use Rattle.writer.proofs.laws.Certified.{replies-of, attacks-of}
 use Rattle.writer.proofs.laws.RulesKept.{ownRegion, ownReplies, ownAttacks, replies-pass, attacks-pass}
-use Rattle.writer.proofs.laws.Within.{Within, read-within}
+use Rattle.file.proofs.laws.Within.{Within, read-within}
 
 -- the tables of the certificate of a circuit
 unfoldable pub ownTables : List ℕ → Circuit → Tables

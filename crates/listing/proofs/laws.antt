@@ -1,0 +1,7 @@
+pub mod Line
+pub mod Turns
+pub mod Listing
+pub mod Solved
+pub mod Front
+pub mod Place
+pub mod Longest
