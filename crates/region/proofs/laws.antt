@@ -1,1 +1,2 @@
 pub mod RegionByte
+pub mod Verdict

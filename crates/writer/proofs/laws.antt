@@ -4,7 +4,6 @@ pub mod Length
 pub mod Certified
 pub mod Bounds
 pub mod InParts
-pub mod Verdict
 pub mod Ranked
 pub mod RulesKept
 pub mod Passes

@@ -19,7 +19,7 @@ use Rattle.solver.specs.declared.Solution.{Solution}
 use Rattle.solver.specs.declared.counts.Counts.{Counts}
 use Rattle.solver.proofs.laws.Solution.{replies-long}
 use Rattle.writer.specs.Solved.{Solved, Replied, Attacked}
-use Rattle.writer.proofs.laws.Verdict.{realizable-at-zero}
+use Rattle.region.proofs.laws.Verdict.{realizable-at-zero}
 
 -- as many numbers as n bits make are few
 pub few-numbers : (n m most : ℕ) → m ≡ 2 ^ min n (base .latches) → n ≤ most → m ≤ 2 ^ most
