@@ -14,7 +14,7 @@ pub mod Lines
 pub mod Complete
 pub mod Stages
 pub mod Sound
-pub mod Agree
+pub mod TakenExactly
 pub mod LineFault
 pub mod FirstFault
 pub mod NoSymbol

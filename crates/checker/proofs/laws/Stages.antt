@@ -71,13 +71,13 @@ module _ (c : Circuit) (file certificate : List ℕ) where
   misshapen-refused e = rw e
 
   module _ (t : Tables) (e : tablesOf acceptedKinds certificate ≡ some t) where
+    pub other-refused : sameBytes (circuitPart t) file ≡ false → circuitChecked c file certificate ≡ refused otherCircuit 0
+    unfolding circuitChecked orBadShape refuseIf
+    other-refused f = rw (e, f)
+
     shaped-goes-on : circuitChecked c file certificate ≡ (refuseIf (not (sameBytes (circuitPart t) file)) otherCircuit 0 >> (tablesChecked c t >>= λ u. taken (startsOf c u)))
     unfolding circuitChecked orBadShape
     shaped-goes-on = rw e
-
-    pub other-refused : sameBytes (circuitPart t) file ≡ false → circuitChecked c file certificate ≡ refused otherCircuit 0
-    unfolding refuseIf
-    other-refused f = shaped-goes-on ∙ rw f
 
     pub same-goes-on : sameBytes (circuitPart t) file ≡ true → circuitChecked c file certificate ≡ (tablesChecked c t >>= λ u. taken (startsOf c u))
     unfolding refuseIf

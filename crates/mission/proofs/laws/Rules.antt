@@ -28,7 +28,7 @@ use Rattle.text.specs.Row.{Row}
 use Rattle.text.specs.TextFile.{TextFile, circuitOf}
 use Rattle.text.specs.WellFormed.{WellFormed}
 use Rattle.text.specs.Written.{textOf}
-use Rattle.text.proofs.laws.Agree.{taken-exactly, written-once}
+use Rattle.text.proofs.laws.TakenExactly.{taken-exactly, written-once}
 use Rattle.text.proofs.laws.Exact.{refused-exactly, taken-circuit}
 use Rattle.text.proofs.laws.Outcome.{taken-is}
 use Rattle.step.specs.Defined.{definedBy}

@@ -20,13 +20,13 @@ use Rattle.records.specs.RegionBits.{regionLength, holdsState}
 use Rattle.records.specs.ReplyBytes.{replyLength, storedReply}
 
 module _ (region table : List ℕ) (L U s r : ℕ) where
-  pub reply-inside : holdsState region L s ≡ true → replyIn region table L U s r ≡ storedReply table L U s r
-  unfolding replyIn
-  reply-inside e = ap (λ (b : Bool). cond b (storedReply table L U s r) 0) e
-
   pub reply-outside : holdsState region L s ≡ false → replyIn region table L U s r ≡ 0
   unfolding replyIn
   reply-outside e = ap (λ (b : Bool). cond b (storedReply table L U s r) 0) e
+
+  pub reply-inside : holdsState region L s ≡ true → replyIn region table L U s r ≡ storedReply table L U s r
+  unfolding replyIn
+  reply-inside e = ap (λ (b : Bool). cond b (storedReply table L U s r) 0) e
 
 -- the table is the front of the bytes, of the table's own length
 module _ (bytes : List ℕ) (n L s : ℕ) where
