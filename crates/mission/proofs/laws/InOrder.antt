@@ -13,7 +13,7 @@ use Rattle.text.specs.InList.{All}
 use Rattle.text.specs.Symbol.{isControllable}
 use Rattle.text.specs.TextFile.{TextFile, circuitOf}
 use Rattle.text.specs.WellFormed.{WellFormed, definedIn, ofInputsAndLatches as ofInputsAndLatchesIn, Known as KnownIn, Operands as OperandsIn}
-use Rattle.text.proofs.laws.Agree.{taken-exactly}
+use Rattle.text.proofs.laws.TakenExactly.{taken-exactly}
 use Rattle.text.proofs.laws.Exact.{taken-circuit}
 use Rattle.text.proofs.laws.Lists.{Fresh, pairs-fresh, in-member, no-member-of}
 use Rattle.step.specs.Defined.{inputVariable, latchVariable, gateVariable, ofInputsAndLatches, definedBy}
