@@ -5,6 +5,7 @@ import os
 import pathlib
 import platform
 import resource
+import shutil
 import subprocess
 import sys
 
@@ -15,6 +16,24 @@ os.sched_setaffinity(0, {max(os.sched_getaffinity(0))})  # one processor for all
 
 TIMES = 25
 ENOUGH = 20.0  # seconds; no more runs behind this many
+
+
+def begin(about, programs, second=False):
+    """Ends at once for `--help`, or if something is lacking: all of it is said."""
+    if "--help" in sys.argv[1:]:
+        sys.exit(print(about))
+    lacking = [] if shutil.which("rt") else ["the Rattle kit's rt on the path"]
+    if not shutil.which("lscpu"):
+        lacking.append("lscpu")
+    if platform.machine() != "x86_64" and not shutil.which("cc"):
+        lacking.append("a C compiler, cc")
+    missing = [program for program in programs if not (ROOT / "target" / "bin" / program).exists()]
+    if missing:
+        lacking.append(f"{', '.join(missing)}: rt check {' '.join(missing)}")
+    if second and not SECOND.exists():
+        lacking.append("the second program: .ci/compare")
+    if lacking:
+        sys.exit("\n".join(["lacking:", *lacking]))
 
 
 @functools.cache

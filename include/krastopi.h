@@ -1,11 +1,13 @@
-/* The library for C: each function is that of the crate `capi`, with the promise written there (docs/PROMISES.md). It links into x86-64
-   programs: `rt staticlib capi` makes target/staticlib/libcapi.a.
+/* The library for C and C++: each function is that of the crate `capi`, with the promise written there (docs/PROMISES.md; the words are those
+   of docs/FORMAT.md). It links into x86-64 programs: `rt staticlib capi` makes target/staticlib/libcapi.a.
 
    Lent bytes are a pointer, which isn't NULL, and a count. A buffer that is written to overlaps no other. Nothing is kept after a call, and
-   nothing is allocated; 1 MiB of stack is enough. In an answer number 0 says that nothing was refused; after a refusal (document 01, "The
-   numbers") all but number and place is 0, and no byte is written. L, U and C count latches, uncontrollable and controllable inputs. */
+   nothing is allocated; 1 MiB of stack is enough. In an answer number 0 says that nothing was refused; after a refusal all but number and
+   place is 0, and no byte is written. L, U and C count latches, uncontrollable and controllable inputs. */
 #ifndef KRASTOPI_H
 #define KRASTOPI_H
+
+#define KRASTOPI_VERSION 2 /* of this header and library: a greater one when a struct, a function or a number changes */
 
 #define KRASTOPI_FILE 16384        /* bytes of the longest file that is taken */
 #define KRASTOPI_PRINT 15157       /* bytes of the longest print */
@@ -13,7 +15,57 @@
 #define KRASTOPI_REPLIES 3         /* the kinds of a certificate's table */
 #define KRASTOPI_ATTACKS 4
 
+#ifdef __cplusplus
+extern "C" {
+typedef bool krastopi_bool;
+#else
+typedef _Bool krastopi_bool;
+#endif
+
 typedef unsigned long krastopi_count;
+
+/* The numbers of the refusals. */
+enum krastopi_number {
+    KRASTOPI_NOT_REFUSED = 0,
+    KRASTOPI_TOO_LONG = 1,
+    KRASTOPI_NO_HEADER = 2,
+    KRASTOPI_BEYOND_LIMITS = 3,
+    KRASTOPI_MALFORMED_LINE = 4,
+    KRASTOPI_BAD_LITERAL = 5,
+    KRASTOPI_DEFINED_TWICE = 6,
+    KRASTOPI_NOT_DEFINED = 7,
+    KRASTOPI_BAD_SYMBOL = 8,
+    KRASTOPI_TOO_MANY_INPUTS = 9,
+    KRASTOPI_NO_ROOM = 10,
+    KRASTOPI_NO_CERTIFICATE = 11,
+    KRASTOPI_OTHER_CIRCUIT = 12,
+    KRASTOPI_WRONG_LENGTH = 13,
+    KRASTOPI_RESET_OUTSIDE = 14,
+    KRASTOPI_BROKEN_RULE = 15
+};
+
+/* What a number says. */
+static inline const char *krastopi_text(unsigned char number) {
+    static const char *const texts[] = {
+        "Nothing is refused.",
+        "The file is too long: it has more than 16384 bytes.",
+        "The first line isn't 'aag' and five numbers, single spaces between them.",
+        "The header breaks a limit (M 1000, L 10, I 13, exactly 1 output), or M is less than I + L + A.",
+        "A line before the symbols is malformed or missing.",
+        "A literal is too large, or a defining one is odd or 0.",
+        "A variable is defined twice.",
+        "A used variable isn't defined, or a gate's operand not before the gate.",
+        "A symbol line is bad, its position is, or its symbol is repeated.",
+        "There are more than 5 uncontrollable or 8 controllable inputs.",
+        "The lent buffer is shorter than what must be written.",
+        "A record is cut short, the kinds or their order are wrong, or bytes are left over.",
+        "The circuit record differs from the circuit file.",
+        "The region, the replies or the attack table has the wrong length, or an unused region bit is 1.",
+        "State 0 isn't in the region, or has rank 0.",
+        "A step rule is broken; the place is state x 2^U + reading, or the state in an attack table.",
+    };
+    return number < sizeof texts / sizeof texts[0] ? texts[number] : "There is no such number.";
+}
 
 struct krastopi_read_answer {
     unsigned char number;
@@ -23,14 +75,14 @@ struct krastopi_read_answer {
 struct krastopi_step_answer {
     unsigned char number;
     krastopi_count place;
-    _Bool error;
+    krastopi_bool error;
     unsigned short next;
 };
 
 struct krastopi_certify_answer {
     unsigned char number;
     krastopi_count place;
-    _Bool realizable;
+    krastopi_bool realizable;
     krastopi_count bytes;
 };
 
@@ -72,21 +124,24 @@ struct krastopi_print_answer krastopi_print(const unsigned char *file, krastopi_
 /* The circuit record as a part of the certificate; nothing where the first record is cut short or of another kind. */
 struct krastopi_part krastopi_circuit_record(const unsigned char *certificate, krastopi_count certificate_bytes);
 
-/* Whether the stored region holds a state. Starts, L and U, here and below, are those that the check answered. */
-_Bool krastopi_region_bit(const unsigned char *certificate, krastopi_count certificate_bytes, krastopi_count region,
-                          krastopi_count latches, krastopi_count state);
+/* Whether the stored region holds a state. This and the next three take the check's answer for the same certificate, as it is. */
+krastopi_bool krastopi_region_bit(const unsigned char *certificate, krastopi_count certificate_bytes,
+                                  struct krastopi_check_answer passed, krastopi_count state);
 
 /* The reply to a reading at a state: the stored one inside the stored region, 0 outside. */
-unsigned char krastopi_reply(const unsigned char *certificate, krastopi_count certificate_bytes, krastopi_count region,
-                             krastopi_count table, krastopi_count latches, krastopi_count readings, krastopi_count state,
-                             krastopi_count reading);
+unsigned char krastopi_reply(const unsigned char *certificate, krastopi_count certificate_bytes, struct krastopi_check_answer passed,
+                             krastopi_count state, krastopi_count reading);
 
 /* The stored rank of a state. */
-unsigned short krastopi_rank(const unsigned char *certificate, krastopi_count certificate_bytes, krastopi_count table,
-                             krastopi_count latches, krastopi_count state);
+unsigned short krastopi_rank(const unsigned char *certificate, krastopi_count certificate_bytes, struct krastopi_check_answer passed,
+                             krastopi_count state);
 
 /* The stored attack of a state. */
-unsigned char krastopi_attack(const unsigned char *certificate, krastopi_count certificate_bytes, krastopi_count table,
-                              krastopi_count latches, krastopi_count state);
+unsigned char krastopi_attack(const unsigned char *certificate, krastopi_count certificate_bytes, struct krastopi_check_answer passed,
+                              krastopi_count state);
+
+#ifdef __cplusplus
+}
+#endif
 
 #endif

@@ -1,12 +1,12 @@
-"""`certify` and `second certify` (01, "The certificate"): what they print and, byte for byte, what they write. A refusal leaves the
-certificate's file as it was, and nothing else is left behind."""
+"""`certify` and `second certify` (01, "The certificate"): what they print and, byte for byte, what they write, over a certificate too. A
+refusal leaves the certificate's file as it was, and nothing else is left behind."""
 import collections
 import pathlib
 import tempfile
 
-from .programs import in_turn, ours, second
+from .programs import ROOT, in_turn, ours, second
 
-BEFORE = b"what was there before\n"
+BEFORE = (ROOT / "crates" / "verify" / "data" / "Q.certificate").read_bytes()  # what was there before: only a certificate is replaced
 
 
 def certified(file, program, before):

@@ -110,6 +110,7 @@ static int unchanged(const struct space *s) { return memcmp(s->copy, s->lent, s-
 static void call(int function, const unsigned long *n, unsigned long *a) {
     const byte *f = file.lent, *c = certificate.lent;
     krastopi_count fs = file.bytes, cs = certificate.bytes;
+    struct krastopi_check_answer passed = {0, 0, 0, n[0], n[1], n[2], n[3]};
     switch (function) {
     case READ: {
         struct krastopi_read_answer r = krastopi_read(f, fs);
@@ -141,10 +142,10 @@ static void call(int function, const unsigned long *n, unsigned long *a) {
         a[0] = r.start, a[1] = r.bytes;
         break;
     }
-    case REGION_BIT: a[0] = krastopi_region_bit(c, cs, n[0], n[2], n[4]); break;
-    case REPLY: a[0] = krastopi_reply(c, cs, n[0], n[1], n[2], n[3], n[4], n[5]); break;
-    case RANK: a[0] = krastopi_rank(c, cs, n[1], n[2], n[4]); break;
-    case ATTACK: a[0] = krastopi_attack(c, cs, n[1], n[2], n[4]); break;
+    case REGION_BIT: a[0] = krastopi_region_bit(c, cs, passed, n[4]); break;
+    case REPLY: a[0] = krastopi_reply(c, cs, passed, n[4], n[5]); break;
+    case RANK: a[0] = krastopi_rank(c, cs, passed, n[4]); break;
+    case ATTACK: a[0] = krastopi_attack(c, cs, passed, n[4]); break;
     default: exit(3);
     }
 }

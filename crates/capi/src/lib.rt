@@ -151,39 +151,31 @@ pub extern "C" fn krastopi_circuit_record(certificate: &[u8]) -> Part
     }
 }
 
-// Whether the stored region holds a state. The starts, L and U of this and the next three are those that the check answered; bytes that
-// aren't there count as 0, and bits of state and reading above L and U aren't read.
+// Whether the stored region holds a state. This and the next three take what the check answered whole, so that no start or count can stand
+// for another; bytes that aren't there count as 0, and bits of state and reading above L and U aren't read.
 #[no_mangle]
-pub extern "C" fn krastopi_region_bit(
-    certificate: &[u8],
-    region: usize,
-    latches: usize,
-    state: usize,
-) -> bool
-    ensures { λ r. ⌜ r ≡ holdsState (drop region (now (certificate .entry))) latches state ⌝ }
+pub extern "C" fn krastopi_region_bit(certificate: &[u8], passed: CheckAnswer, state: usize) -> bool
+    ensures { λ r. ⌜ r ≡ holdsState (drop (passed .region) (now (certificate .entry))) (passed .latches) state ⌝ }
 {
-    records::passed::region_bit(certificate, region, latches, state)
+    records::passed::region_bit(certificate, passed.region, passed.latches, state)
 }
 
 // The reply to a reading at a state: the stored one inside the stored region, 0 outside.
 #[no_mangle]
 pub extern "C" fn krastopi_reply(
     certificate: &[u8],
-    region: usize,
-    table: usize,
-    latches: usize,
-    readings: usize,
+    passed: CheckAnswer,
     state: usize,
     reading: usize,
 ) -> u8
-    ensures { λ r. ⌜ r ≡ replyIn (drop region (now (certificate .entry))) (drop table (now (certificate .entry))) latches readings state reading ⌝ }
+    ensures { λ r. ⌜ r ≡ replyIn (drop (passed .region) (now (certificate .entry))) (drop (passed .table) (now (certificate .entry))) (passed .latches) (passed .readings) state reading ⌝ }
 {
     records::passed::reply(
         certificate,
-        region,
-        table,
-        latches,
-        readings,
+        passed.region,
+        passed.table,
+        passed.latches,
+        passed.readings,
         state,
         reading,
     )
@@ -191,26 +183,16 @@ pub extern "C" fn krastopi_reply(
 
 // The stored rank of a state.
 #[no_mangle]
-pub extern "C" fn krastopi_rank(
-    certificate: &[u8],
-    table: usize,
-    latches: usize,
-    state: usize,
-) -> u16
-    ensures { λ r. ⌜ r ≡ storedRank (drop table (now (certificate .entry))) latches state ⌝ }
+pub extern "C" fn krastopi_rank(certificate: &[u8], passed: CheckAnswer, state: usize) -> u16
+    ensures { λ r. ⌜ r ≡ storedRank (drop (passed .table) (now (certificate .entry))) (passed .latches) state ⌝ }
 {
-    records::passed::rank(certificate, table, latches, state)
+    records::passed::rank(certificate, passed.table, passed.latches, state)
 }
 
 // The stored attack of a state.
 #[no_mangle]
-pub extern "C" fn krastopi_attack(
-    certificate: &[u8],
-    table: usize,
-    latches: usize,
-    state: usize,
-) -> u8
-    ensures { λ r. ⌜ r ≡ storedAttack (drop table (now (certificate .entry))) latches state ⌝ }
+pub extern "C" fn krastopi_attack(certificate: &[u8], passed: CheckAnswer, state: usize) -> u8
+    ensures { λ r. ⌜ r ≡ storedAttack (drop (passed .table) (now (certificate .entry))) (passed .latches) state ⌝ }
 {
-    records::passed::attack(certificate, table, latches, state)
+    records::passed::attack(certificate, passed.table, passed.latches, state)
 }

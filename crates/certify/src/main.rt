@@ -1,5 +1,6 @@
 // certify CIRCUIT CERTIFICATE writes the certificate of a circuit file (01, "The certificate") and prints the verdict and how many
 // bytes it has. Of a file that is refused it prints `refused`, number and place, and the certificate's file stays as it was.
+mod place;
 mod save;
 
 use writer::Certified;

@@ -1,5 +1,6 @@
 // Saves bytes as a file: they are written under a temporary name beside its place, which is then renamed. So the file is never seen
 // half written, and where there is trouble it stays as it was.
+use crate::place;
 
 // Saves bytes as the file that an argument names, and answers whether they are saved.
 pub(crate) fn save_argument(i: usize, bytes: &[u8]) -> bool {
@@ -9,7 +10,13 @@ pub(crate) fn save_argument(i: usize, bytes: &[u8]) -> bool {
         return false;
     }
     let n = filled.bytes;
-    save(&name[..n], bytes)
+    place::is_free(&name[..n]) && save_behind_links(&name[..n], bytes)
+}
+
+fn save_behind_links(name: &[u8], bytes: &[u8]) -> bool {
+    let mut space = io::buffer();
+    let n = place::follow(name, &mut space);
+    save(&space[..n], bytes)
 }
 
 fn save(name: &[u8], bytes: &[u8]) -> bool {
@@ -38,15 +45,24 @@ fn positive(number: i32) -> u64 {
 fn save_by(temporary: &[u8], name: &[u8], bytes: &[u8]) -> bool {
     let fd = os::create(temporary);
     if fd < 0 {
-        os::fail(temporary);
+        fail_to_create(temporary, name);
         return false;
     }
-    let written = write_whole(fd, temporary, bytes);
+    let written = write_whole(fd, name, bytes);
     if written && renamed(temporary, name) {
         return true;
     }
     os::unlink(temporary);
     false
+}
+
+// Only a temporary name that is taken is told: the others tell of the certificate's place.
+fn fail_to_create(temporary: &[u8], name: &[u8]) {
+    if os::errno() == libc::EEXIST {
+        os::fail(temporary);
+    } else {
+        os::fail(name);
+    }
 }
 
 fn write_whole(fd: i32, name: &[u8], bytes: &[u8]) -> bool {

@@ -11,7 +11,7 @@ ghost use Rattle.io.specs.Counts.{Counts};
 ghost use Rattle.circuit.specs.Limits.{base};
 
 // The longest certificate that is written: three records, with a file, a region and replies at their limits.
-const CERTIFICATE: usize = 3 * HEAD + Circuit::FILE + Circuit::REGION + Circuit::REPLIES;
+pub const CERTIFICATE: usize = 3 * HEAD + Circuit::FILE + Circuit::REGION + Circuit::REPLIES;
 
 // How many bytes stand at the front of a space, or that there was trouble, which has been told.
 pub struct Filled {

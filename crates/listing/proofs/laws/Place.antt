@@ -3,25 +3,25 @@
 use Prim.Native.Nat.{ℕ, suc, _+_, _^_, _<_, _≤_}
 use native.Mathlib.Omega.{arith}
 use mathlib.Core.Bool.{Bool, true, false, cond}
-use mathlib.Core.List.{List, [], _∷_, map}
-use mathlib.Core.Path.{_≡_, refl, ap}
+use mathlib.Core.List.{List, [], _∷_, _++_, map}
+use mathlib.Core.Logic.{inl, inr}
+use mathlib.Core.Path.{_≡_, ap}
 use lib.Dec.{eqb}
-use lib.ListN.{length, drop, length-append, length-drop, length-map}
+use lib.ListN.{length, drop, replicate, length-append, length-drop, length-map, length-replicate, length-take}
 use Rattle.circuit.specs.Limits.{base}
-use Rattle.circuit.specs.Outcome.{taken, refused}
+use Rattle.circuit.specs.Outcome.{refused}
 use Rattle.file.specs.CircuitIn.{circuitIn}
-use Rattle.text.specs.BodyBroken.{BodyBroken, inInputs, inLatches, inOutput, inGates, inUse, inSymbols}
+use Rattle.text.specs.BodyBroken.{BodyBroken, inLines, inUse, inSymbols}
+use Rattle.text.specs.FirstFault.{FirstFault}
 use Rattle.text.specs.Header.{Header}
+use Rattle.text.specs.Kind.{Kind, anInput, aLatch, theOutput, aGate, kinds, definedBy}
 use Rattle.text.specs.Line.{before, lines}
 use Rattle.text.specs.Row.{Row, one, two, three, fourToEight, nine}
-use Rattle.text.specs.Rules.{Rule, inputRule, latchRule, outputRule, gateRule}
-use Rattle.text.specs.Section.{Body, onward}
-use Rattle.text.specs.Stages.{inputSection, latchSection, outputSection, gateSection, lateOf}
+use Rattle.text.specs.Unknown.{lateLiterals}
 use Rattle.text.specs.Within.{Within}
-use Rattle.text.specs.Written.{numberLine}
+use Rattle.text.specs.Written.{symbolLine}
 use Rattle.text.proofs.laws.BodyBroken.{body-range}
 use Rattle.text.proofs.laws.Exact.{refused-exactly}
-use Rattle.text.proofs.laws.Section.{Whole, section-whole}
 
 before-few : (b : ℕ) (ls : List (List ℕ)) (n : ℕ) → length ls ≤ n → length (before b ls) ≤ suc n
 unfolding before
@@ -38,50 +38,44 @@ lines-few (b ∷ s) = by (eqb b 10) (lines-few s)
     by true few = omega arith
     by false few = before-few b (lines s) (length s) few
 
--- a section leaves no more lines than there were
-rest-few : {rule : Rule} {n : ℕ} {defined : List ℕ} {rest : List (List ℕ)} {after : Body} → Whole rule n defined rest after → length (after .rest) ≤ length rest
-rest-few {after = after} w = omega (arith, ap length (w .lines), length-append (map numberLine (after .rows)) (after .rest))
+-- the first fault of lines stands in one of them
+first-place :
+    (M : ℕ) (ks : List Kind) (defined : List ℕ) (ls : List (List ℕ)) (at number place : ℕ) → FirstFault M ks defined ls at number place
+    → place < at + length ks
+first-place M [] defined ls at number place w = absurd w
+first-place M (k ∷ ks) defined ls at number place (inl (p, f)) = omega arith
+first-place M (k ∷ ks) defined ls at number place (inr (fs, r, more)) =
+    omega (arith, first-place M ks (defined ++ definedBy k fs) (drop 1 ls) (suc at) number place more)
 
 module _ (h : Header) (rest : List (List ℕ)) where
-  inputs-whole : (inputs : Body) → inputSection h rest ≡ taken inputs → Whole (inputRule (h .largest)) (h .inputs) [] rest inputs
-  unfolding inputRule
-  inputs-whole inputs e = section-whole (inputRule (h .largest)) 0 (h .inputs) 2 [] rest inputs refl e
+  kinds-long : length (kinds h) ≡ h .inputs + h .latches + 1 + h .gates
+  kinds-long =
+      omega (
+        arith,
+        length-append (replicate (h .inputs) anInput) (replicate (h .latches) aLatch ++ (theOutput ∷ replicate (h .gates) aGate)),
+        length-append (replicate (h .latches) aLatch) (theOutput ∷ replicate (h .gates) aGate),
+        length-replicate (h .inputs) anInput,
+        length-replicate (h .latches) aLatch,
+        length-replicate (h .gates) aGate,
+      )
 
-  latches-whole :
-      (inputs latches : Body) → latchSection h inputs ≡ taken latches → Whole (latchRule (h .largest)) (h .latches) (inputs .defined) (inputs .rest) latches
-  unfolding latchRule onward
-  latches-whole inputs latches e = section-whole (latchRule (h .largest)) 1 (h .latches) (2 + h .inputs) (inputs .defined) (inputs .rest) latches refl e
-
-  output-whole : (latches output : Body) → outputSection h latches ≡ taken output → Whole (outputRule (h .largest)) 1 (latches .defined) (latches .rest) output
-  unfolding outputRule onward
-  output-whole latches output e = section-whole (outputRule (h .largest)) 0 1 (2 + h .inputs + h .latches) (latches .defined) (latches .rest) output refl e
-
-  gates-whole : (output gates : Body) → gateSection h output ≡ taken gates → Whole (gateRule (h .largest)) (h .gates) (output .defined) (output .rest) gates
-  unfolding gateRule onward
-  gates-whole output gates e = section-whole (gateRule (h .largest)) 2 (h .gates) (3 + h .inputs + h .latches) (output .defined) (output .rest) gates refl e
-
-  late-long : (latches output : Body) → length (lateOf latches output) ≡ length (latches .rows) + length (output .rows)
-  late-long latches output = simp (length-append, length-map)
+  late-few : (rows : List (List ℕ)) → length (lateLiterals h rows) ≤ h .latches + 1
+  late-few rows = simp (length-append, length-map) (omega (arith, length-take (h .latches) (drop (h .inputs) rows), length-take 1 (drop (h .latches) (drop (h .inputs) rows))))
 
   body-place : Within base h → (number place : ℕ) → BodyBroken h rest number place → place < 1004 + length rest
-  body-place w number place (inInputs k) = omega (arith, w .room, w .largest, k .within, k .line)
-  body-place w number place (inLatches inputs a k) = omega (arith, w .room, w .largest, k .within, k .line)
-  body-place w number place (inOutput inputs latches a b k) = omega (arith, w .room, w .largest, k .within, k .line)
-  body-place w number place (inGates inputs latches output a b c k) = omega (arith, w .room, w .largest, k .within, k .line)
-  body-place w number place (inUse inputs latches output gates a b c d k) =
-      omega
-      (arith, w .room, w .largest, k .within, k .line, late-long latches output, latches-whole inputs latches b .count, output-whole latches output c .count)
-  body-place w number place (inSymbols inputs latches output gates a b c d u k) =
+  body-place w number place (inLines k) =
+      omega (arith, w .room, w .largest, first-place (h .largest) (kinds h) [] rest 2 number place k, kinds-long)
+  body-place w number place (inUse rows r k) = omega (arith, w .room, w .largest, k .within, k .line, late-few rows)
+  body-place w number place (inSymbols rows r u k) =
       omega (
         arith,
         w .room,
         w .largest,
-        k .within,
-        k .line,
-        rest-few (inputs-whole inputs a),
-        rest-few (latches-whole inputs latches b),
-        rest-few (output-whole latches output c),
-        rest-few (gates-whole output gates d),
+        k .at,
+        ap length (k .lines),
+        length-append (map symbolLine (k .before)) (k .line ∷ k .after),
+        length-map (k .before) symbolLine,
+        length-drop (length (kinds h)) rest,
       )
 
 pub refusal-small : (file : List ℕ) (number place : ℕ) → circuitIn file ≡ refused number place → (number < 10) × (place < 10 ^ 5)
