@@ -81,11 +81,11 @@ input-has seen (a ∷ above) below i t r k val e o =
     by false true n ih = ih (r / 2) k _
     by false false n ih = ih (r / 2) k _ ∙ sym (bit-suc r n)
 
-both : Valuation → Gate → Bool
+pub both : Valuation → Gate → Bool
 both val g = literalValue val (g .left) && literalValue val (g .right)
 
 -- a gate, when all gates are put
-gate-has :
+pub gate-has :
     (seen : List ℕ) (gs : List Gate) (val : Valuation) → Once seen (map gateVariable gs) → Operands seen gs →
     (g : Gate) → List·Memᴰ g gs → withGates gs val (gateVariable g) ≡ both (withGates gs val) g
 unfolding withGates both
