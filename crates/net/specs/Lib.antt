@@ -1,0 +1,4 @@
+pub mod Net
+pub mod Move
+pub mod NetOf
+pub mod InOrder
