@@ -1,0 +1,4 @@
+pub mod Move
+pub mod Names
+pub mod NetStep
+pub mod InOrder

@@ -1,8 +1,10 @@
--- A net in order: each literal names a variable that stands before it, and none lies above those that a circuit may need. Assumes nothing.
+-- A net in order: each literal names a variable that stands before it, and there are no more variables and latches than a circuit may need.
+-- Assumes nothing.
 use Prim.Native.Nat.{ℕ, suc, _+_, _*_, _≤_, _<_}
 use mathlib.Core.List.{List, [], _∷_}
 use mathlib.Core.Path.{_≡_}
 use lib.ListN.{length}
+use Rattle.circuit.specs.Limits.{base}
 use Rattle.net.specs.Net.{netOutput, netNexts, netOperands, netLatches, moveBits}
 
 -- how many variables a net has at most: a constant, 13 inputs, 10 latches and 1,000 gates
@@ -26,4 +28,5 @@ pub record InOrder (net : List ℕ) : Type 0 where
   pub gates : GatesInOrder (netOperands net) (suc (moveBits net)) end
   pub output : netOutput net < 2 * end
   pub nexts : AllBefore end (netNexts net)
+  pub states : netLatches net ≤ base .latches
   pub long : 4 + netLatches net ≤ length net
