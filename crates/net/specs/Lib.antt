@@ -2,3 +2,4 @@ pub mod Net
 pub mod Move
 pub mod NetOf
 pub mod InOrder
+pub mod Made

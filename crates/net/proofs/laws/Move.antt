@@ -5,7 +5,8 @@ use native.Mathlib.Nat.{mod-lt}
 use mathlib.Core.Bool.{Bool, false}
 use mathlib.Core.Path.{_≡_, refl, sym, ap, _∙_}
 use lib.Dec.{eqb}
-use lib.Pow.{pow-pos, shr-shr, high, low}
+use lib.Arith.{digits-lt}
+use lib.Pow.{pow-pos, pow-lt, pow-add, shl-exact, shr-shr, high, low}
 use borrow.Author.Tests.{le-leb, lt-leb}
 use Rattle.bits.specs.Bit.{bit, odd}
 use Rattle.bits.proofs.laws.Bit.{bit-mod}
@@ -58,3 +59,16 @@ with-move-at n move v i e h =
 pub with-move-none : (n move : ℕ) → withMove n move 0 ≡ false
 unfolding withMove
 with-move-none n move = refl
+
+-- a move as code makes it: nothing is lost by a shift of so few bits
+pub shift-joins : (j k h m : ℕ) → h < 2 ^ j → j + k < 64 → h * 2 ^ k % 18446744073709551616 + m ≡ h * 2 ^ k + m
+shift-joins j k h m l f = ap (λ (x : ℕ). x + m) (shl-exact j k 64 l (omega arith))
+
+pub join-below : (j k h m : ℕ) → h < 2 ^ j → m < 2 ^ k → h * 2 ^ k + m < 2 ^ (j + k)
+join-below j k h m l f = omega (arith, digits-lt {q = h} {m = 2 ^ j} {r = m} {c = 2 ^ k} l f, pow-add 2 j k)
+
+pub power-fits : (n x : ℕ) → x < 2 ^ n → n < 64 → x < 18446744073709551616
+power-fits n x l h = omega (arith, pow-lt {i = n} {j = 64} h)
+
+pub lowest-below : (n w : ℕ) → n % 2 ^ w < 2 ^ w
+lowest-below n w = mod-lt n (pow-pos w)

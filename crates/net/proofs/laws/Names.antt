@@ -1,5 +1,5 @@
 -- What holds of names: each is below the next variable, so each literal names one that stands before it. Assumes nothing.
-use Prim.Native.Nat.{ℕ, suc, _+_, _*_, _<_, _≤_}
+use Prim.Native.Nat.{ℕ, zero, suc, _+_, _*_, _/_, _%_, _<_, _≤_}
 use native.Mathlib.Omega.{arith}
 use native.Mathlib.Decide.{decLt, ℕ-discrete}
 use mathlib.Core.Bool.{Bool, true, false, cond, not}
@@ -66,6 +66,24 @@ gates-below (g ∷ gs) v names b =
     below-more (suc v + length gs) (v + suc (length gs)) _
     (gates-below gs (suc v) _ (name-below (suc v) (variable (g .own)) v names (below-more v (suc v) names b (omega arith)) (omega arith)))
     (omega arith)
+
+one-odd : (m : ℕ) → m < 2 → oneIf (eqb m 1) ≡ m
+unfolding oneIf
+one-odd zero h = refl
+one-odd (suc zero) h = refl
+one-odd (suc (suc m)) h = absurd (omega arith)
+
+-- a literal of the circuit as the net has it
+pub literal-constant : (names : Names) (l : ℕ) → l < 2 → netLiteral names l ≡ l
+unfolding netLiteral constant
+literal-constant names l h = rw (lt-ltb l 2 h)
+
+pub literal-made : (names : Names) (l : ℕ) → 2 ≤ l → netLiteral names l ≡ 2 * names (l / 2) + l % 2
+unfolding netLiteral constant variable inverted odd
+literal-made names l h = rw (le-ltb l 2 h) (ap (λ (m : ℕ). 2 * names (l / 2) + m) (odd-one l))
+  where
+    odd-one : (n : ℕ) → oneIf (odd n) ≡ n % 2
+    odd-one n = one-odd (n % 2) (omega arith)
 
 -- a literal names a variable that stands before n
 pub literal-before : (n l : ℕ) (names : Names) → Below n names → netLiteral names l < 2 * n
