@@ -5,3 +5,4 @@ pub mod InOrder
 pub mod Naming
 pub mod Putting
 pub mod Made
+pub mod Lent

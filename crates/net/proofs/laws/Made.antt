@@ -30,7 +30,7 @@ sets-swap l i vs j (w ∷ ws) h =
     ∙ ap (λ (x : List ℕ). sets x (suc j) ws) (sym (sets-set-past l i vs j w h))
 
 -- numbers put over zeros are padded
-over-zeros : (n : ℕ) (net : List ℕ) → length net ≤ n → sets (table (λ i. 0) n) 0 net ≡ padded n net
+pub over-zeros : (n : ℕ) (net : List ℕ) → length net ≤ n → sets (table (λ i. 0) n) 0 net ≡ padded n net
 unfolding padded
 over-zeros n net h =
     sets-front zeros net (omega (arith, long))
@@ -53,7 +53,7 @@ over-zeros n net h =
         ∙ sym (getD-take (n - length net) (replicate n 0) i 0 (omega (arith, length-drop (length net) zeros, long))
         ∙ getD-replicate n i 0 0 (omega (arith, length-drop (length net) zeros, long))))
 
-operands-long : (gs : List Gate) (v : ℕ) (names : Names) → length (operandsOf gs v names) ≡ 2 * length gs
+pub operands-long : (gs : List Gate) (v : ℕ) (names : Names) → length (operandsOf gs v names) ≡ 2 * length gs
 unfolding operandsOf
 operands-long [] v names = refl
 operands-long (g ∷ gs) v names = omega (arith, operands-long gs (suc v) (name (variable (g .own)) v names))
