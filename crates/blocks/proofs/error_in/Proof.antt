@@ -23,7 +23,9 @@ is-lane-requires c κs = search needs
 
 returns : tie.Need-returns
 unfolding errorIn litsIn netOutput
-returns c = let a = c .before .before .before .before .before .before .args in c .is-lane .ensures ∙ ap (λ (w : ℕ). lane w (a .j)) (c .before .word-at .ensures ∙ ap (λ (l : ℕ). getD (a .words .now) l 0) (c .before .before .place .ensures ∙ ap (λ (l : ℕ). l % literals) (c .before .before .before .number-at .ensures)))
+returns c = let a = c .before .before .before .before .before .before .args in c .is-lane .ensures
+    ∙ ap (λ (w : ℕ). lane w (a .j)) (c .before .word-at .ensures ∙ ap (λ (l : ℕ). getD (a .words .now) l 0) (c .before .before .place .ensures
+    ∙ ap (λ (l : ℕ). l % literals) (c .before .before .before .number-at .ensures)))
 
 pub error-in-spec : {M : Type 1} → statement M
 error-in-spec =

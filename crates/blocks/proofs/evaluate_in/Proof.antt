@@ -25,7 +25,11 @@ add-put-gates : tie.Need-add-put-gates
 add-put-gates c = search needs
 
 put-gates-requires : tie.Need-put-gates-requires
-put-gates-requires c κs = (search needs, rw (c .before .before .before .before .before .before .first-gate .ensures) (first-gate-few (c .before .before .before .before .before .before .before .before .before .args .net .now)))
+put-gates-requires c κs = (
+  search needs,
+  rw (c .before .before .before .before .before .before .first-gate .ensures)
+      (first-gate-few (c .before .before .before .before .before .before .before .before .before .args .net .now)),
+)
 
 same-length : tie.Need-same-length
 same-length c = search needs
@@ -33,7 +37,10 @@ same-length c = search needs
 returns : tie.Need-returns
 returns c = let a = c .before .before .before .before .before .before .before .before .before .before .before .before .args in
     let g = c .before .before .before .before .before .before .before .before .before .first-gate in
-    λ j h. evaluated-so (a .net .now) (moveIn (a .block) j) (g .result) (c .before .before .before .number-at .result) (litsIn (a .words .now) j) (litsIn (c .before .before .before .before .before .before .before .put-move .last .0) j) (litsIn (c .before .before .put-gates .last .0) j) (g .ensures) (c .before .before .before .number-at .ensures) (c .before .before .before .before .before .before .before .put-move .ensures (moveBits (a .net .now)) j (rw (g .ensures) (first-gate-moved (a .net .now))) h) (c .before .before .put-gates .ensures j h)
+    λ j h. evaluated-so (a .net .now) (moveIn (a .block) j) (g .result) (c .before .before .before .number-at .result) (litsIn (a .words .now) j)
+    (litsIn (c .before .before .before .before .before .before .before .put-move .last .0) j) (litsIn (c .before .before .put-gates .last .0) j)
+    (g .ensures) (c .before .before .before .number-at .ensures) (c .before .before .before .before .before .before .before .put-move .ensures
+    (moveBits (a .net .now)) j (rw (g .ensures) (first-gate-moved (a .net .now))) h) (c .before .before .put-gates .ensures j h)
 
 pub evaluate-in-spec : {M : Type 1} → statement M
 evaluate-in-spec =

@@ -36,7 +36,9 @@ fewer-requires : tie.Need-fewer-requires
 fewer-requires c κs = search needs
 
 returns : tie.Need-returns
-returns c = let a = c .before .before .before .before .before .args in c .fewer .ensures ∙ first-gate (a .net .now) (c .before .before .before .number-at .result) (c .before .before .number-at2 .result) (c .before .number-at3 .result) (c .before .before .before .number-at .ensures) (c .before .before .number-at2 .ensures) (c .before .number-at3 .ensures)
+returns c = let a = c .before .before .before .before .before .args in c .fewer .ensures
+    ∙ first-gate (a .net .now) (c .before .before .before .number-at .result) (c .before .before .number-at2 .result) (c .before .number-at3 .result)
+    (c .before .before .before .number-at .ensures) (c .before .before .number-at2 .ensures) (c .before .number-at3 .ensures)
 
 pub first-gate-spec : {M : Type 1} → statement M
 first-gate-spec =

@@ -24,6 +24,7 @@ word-decided : (a b : ℕ) → a < 2 ^ width → b < 2 ^ width → ((j : ℕ) �
 unfolding lane odd bit
 word-decided a b h l e = bits-decide width a b h l (λ j m. same-bit (bit a j) (bit b j) (bit-below a j) (bit-below b j) (e j m))
 
-pub words-decided : (a b : List ℕ) → length a ≡ length b → ((k : ℕ) → getD a k 0 < 2 ^ width) → ((k : ℕ) → getD b k 0 < 2 ^ width) → ((j : ℕ) → j < width → litsIn a j ≡ litsIn b j) → a ≡ b
+pub words-decided : (a b : List ℕ) → length a ≡ length b → ((k : ℕ) → getD a k 0 < 2 ^ width) → ((k : ℕ) → getD b k 0 < 2 ^ width)
+    → ((j : ℕ) → j < width → litsIn a j ≡ litsIn b j) → a ≡ b
 unfolding litsIn
 words-decided a b long h l e = ext-getD 0 a b long (λ k m. word-decided (getD a k 0) (getD b k 0) (h k) (l k) (λ j w. ap (λ (v : Truths). v k) (e j w)))

@@ -49,12 +49,18 @@ agree-means v lits val l agree h = agree .same l h ∙ both-means val l (agree .
 -- one gate more
 agree-put : (v : ℕ) (lits : Truths) (val : Valuation) (b : Bool) → Agree v lits val → 1 ≤ v → Agree (suc v) (putBoth v b lits) (put v b val)
 unfolding putBoth put both variable
-agree-put v lits val b agree some = record { same = λ l h. elim (ℕ-discrete (l / 2) v) [ yes e ↦ here l e | no d ↦ there l d (omega arith) ]; none = rw (ne-eqb 0 v (λ (e : 0 ≡ v). absurd (omega arith))) (agree .none) }
+agree-put v lits val b agree some = record {
+  same = λ l h. elim (ℕ-discrete (l / 2) v) [ yes e ↦ here l e | no d ↦ there l d (omega arith) ];
+  none = rw
+      (ne-eqb 0 v (λ (e : 0 ≡ v). absurd (omega arith))) (agree .none);
+}
   where
-    here : (l : ℕ) → l / 2 ≡ v → cond (eqb (l / 2) v) (cond (inverted l) (not b) b) (lits l) ≡ cond (inverted l) (not (cond (eqb (l / 2) v) b (val (l / 2)))) (cond (eqb (l / 2) v) b (val (l / 2)))
+    here : (l : ℕ) → l / 2 ≡ v → cond (eqb (l / 2) v) (cond (inverted l) (not b) b) (lits l) ≡ cond (inverted l)
+        (not (cond (eqb (l / 2) v) b (val (l / 2)))) (cond (eqb (l / 2) v) b (val (l / 2)))
     here l e = rw (eq-eqb (l / 2) v e)
 
-    there : (l : ℕ) → l / 2 ≢ v → l < 2 * v → cond (eqb (l / 2) v) (cond (inverted l) (not b) b) (lits l) ≡ cond (inverted l) (not (cond (eqb (l / 2) v) b (val (l / 2)))) (cond (eqb (l / 2) v) b (val (l / 2)))
+    there : (l : ℕ) → l / 2 ≢ v → l < 2 * v → cond (eqb (l / 2) v) (cond (inverted l) (not b) b) (lits l) ≡ cond (inverted l)
+        (not (cond (eqb (l / 2) v) b (val (l / 2)))) (cond (eqb (l / 2) v) b (val (l / 2)))
     there l d h = rw (ne-eqb (l / 2) v d) (agree .same l h)
 
 -- a list of gates in order ends behind its first, and is as long as its variables need
@@ -68,7 +74,8 @@ gates-long [] v end g = omega (arith, g)
 gates-long (a ∷ []) v end g = absurd g
 gates-long (a ∷ b ∷ rest) v end g = omega (arith, gates-long rest (suc v) end (g .2))
 
-gates-agree : (ops : List ℕ) (v end : ℕ) (lits : Truths) (val : Valuation) → GatesInOrder ops v end → end ≤ variables → 1 ≤ v → Agree v lits val → Agree end (putGates ops v lits) (withOperands ops v val)
+gates-agree : (ops : List ℕ) (v end : ℕ) (lits : Truths) (val : Valuation) → GatesInOrder ops v end → end ≤ variables → 1 ≤ v → Agree v lits val
+    → Agree end (putGates ops v lits) (withOperands ops v val)
 unfolding putGates withOperands
 gates-agree [] v end lits val g few some agree = rw (sym g) agree
 gates-agree (a ∷ []) v end lits val g few some agree = absurd g
@@ -93,7 +100,8 @@ module _ (net : List ℕ) (order : InOrder net) (move : ℕ) (lits : Truths) whe
   first = omega (arith, within, order .few)
 
   whole : take (2 * (variables - firstGate net)) (netOperands net) ≡ netOperands net
-  whole = take-all (2 * (variables - firstGate net)) (netOperands net) (omega (arith, first, within, order .few, gates-long (netOperands net) (suc (moveBits net)) (order .end) (order .gates)))
+  whole = take-all (2 * (variables - firstGate net)) (netOperands net)
+      (omega (arith, first, within, order .few, gates-long (netOperands net) (suc (moveBits net)) (order .end) (order .gates)))
 
   moved : Agree (suc (moveBits net)) (putFirst (suc (moveBits net)) (withMove (moveBits net) move) lits) (withMove (moveBits net) move)
   unfolding putFirst both variable
@@ -115,7 +123,8 @@ module _ (net : List ℕ) (order : InOrder net) (move : ℕ) (lits : Truths) whe
   unfolding errorIn netError
   block-error = looked-up (netOutput net) (order .output)
 
-  bits-same : (ls : List ℕ) → AllBefore (order .end) ls → map (λ (l : ℕ). oneIf (evaluated net move lits (l % literals))) ls ≡ map (λ (l : ℕ). oneIf (literalValue (netValues net move) l)) ls
+  bits-same : (ls : List ℕ) → AllBefore (order .end) ls → map (λ (l : ℕ). oneIf (evaluated net move lits (l % literals))) ls ≡ map
+      (λ (l : ℕ). oneIf (literalValue (netValues net move) l)) ls
   bits-same [] a = refl
   bits-same (l ∷ ls) a = ap₂ {C = List ℕ} (λ x xs. x ∷ xs) (ap oneIf (looked-up l (a .0))) (bits-same ls (a .1))
 
@@ -125,4 +134,5 @@ module _ (net : List ℕ) (order : InOrder net) (move : ℕ) (lits : Truths) whe
 
   pub block-next : nextIn net (evaluated net move lits) ≡ netNext net move
   unfolding nextIn netNext
-  block-next = ap (λ (ls : List ℕ). sum 2 (map (λ (l : ℕ). oneIf (evaluated net move lits (l % literals))) ls)) few-nexts ∙ ap (sum 2) (bits-same (netNexts net) (order .nexts))
+  block-next = ap (λ (ls : List ℕ). sum 2 (map (λ (l : ℕ). oneIf (evaluated net move lits (l % literals))) ls)) few-nexts
+      ∙ ap (sum 2) (bits-same (netNexts net) (order .nexts))

@@ -47,7 +47,8 @@ odd-both n (suc (suc x)) y h l = absurd (omega arith)
 
 pub lane-and : (a b j : ℕ) → lane (bitAnd a b) j ≡ (lane a j && lane b j)
 unfolding odd
-lane-and a b zero = lane-first (bitAnd a b) ∙ ap odd (and-step a b) ∙ odd-both (bitAnd (a / 2) (b / 2)) (a % 2) (b % 2) (omega arith) (omega arith) ∙ sym (λ x. lane-first a x && lane-first b x)
+lane-and a b zero = lane-first (bitAnd a b) ∙ ap odd (and-step a b) ∙ odd-both (bitAnd (a / 2) (b / 2)) (a % 2) (b % 2) (omega arith) (omega arith)
+    ∙ sym (λ x. lane-first a x && lane-first b x)
 lane-and a b (suc j) = lane-later (bitAnd a b) j ∙ ap (λ (w : ℕ). lane w j) half ∙ lane-and (a / 2) (b / 2) j ∙ sym (λ x. lane-later a j x && lane-later b j x)
   where
     half : bitAnd a b / 2 ≡ bitAnd (a / 2) (b / 2)
@@ -76,8 +77,10 @@ xor-ones m a = xor-step a (2 ^ suc m - 1) ∙ λ x. bitXor (a / 2) (ones-half m 
 lane-flipped : (m a j : ℕ) → j < m → lane (bitXor a (2 ^ m - 1)) j ≡ not (lane a j)
 unfolding odd
 lane-flipped zero a j h = absurd (not-suc-le-zero h)
-lane-flipped (suc m) a zero h = lane-first (bitXor a (2 ^ suc m - 1)) ∙ ap odd (xor-ones m a) ∙ odd-other (bitXor (a / 2) (2 ^ m - 1)) (a % 2) (omega arith) ∙ sym (ap not (lane-first a))
-lane-flipped (suc m) a (suc j) h = lane-later (bitXor a (2 ^ suc m - 1)) j ∙ ap (λ (w : ℕ). lane w j) half ∙ lane-flipped m (a / 2) j (le-of-suc-le-suc h) ∙ sym (ap not (lane-later a j))
+lane-flipped (suc m) a zero h = lane-first (bitXor a (2 ^ suc m - 1)) ∙ ap odd (xor-ones m a) ∙ odd-other (bitXor (a / 2) (2 ^ m - 1)) (a % 2) (omega arith)
+    ∙ sym (ap not (lane-first a))
+lane-flipped (suc m) a (suc j) h = lane-later (bitXor a (2 ^ suc m - 1)) j ∙ ap (λ (w : ℕ). lane w j) half ∙ lane-flipped m (a / 2) j (le-of-suc-le-suc h)
+    ∙ sym (ap not (lane-later a j))
   where
     half : bitXor a (2 ^ suc m - 1) / 2 ≡ bitXor (a / 2) (2 ^ m - 1)
     half = omega (arith, xor-ones m a, differ-below (a % 2) (omega arith))

@@ -34,7 +34,9 @@ module _ (net : List ℕ) where
   operands-from l e = drop-drop (getD net 2 0) 4 net ∙ ap (λ (n : ℕ). drop (4 + n) net) (sym e)
 
   -- the move, then the gates
-  pub evaluated-so : (move first l : ℕ) (before moved after : Truths) → first ≡ firstGate net → l ≡ getD net 2 0 → moved ≡ putFirst first (withMove (moveBits net) move) before → after ≡ putGates (take (2 * (variables - first)) (drop (4 + l) net)) first moved → after ≡ evaluated net move before
+  pub evaluated-so : (move first l : ℕ) (before moved after : Truths) → first ≡ firstGate net → l ≡ getD net 2 0
+      → moved ≡ putFirst first (withMove (moveBits net) move) before → after ≡ putGates (take (2 * (variables - first)) (drop (4 + l) net)) first moved
+      → after ≡ evaluated net move before
   unfolding evaluated
   evaluated-so move first l before moved after a e m p = p ∙ rw (m, a, operands-from l e)
 
@@ -43,7 +45,8 @@ module _ (net : List ℕ) where
   nexts-length = length-take (getD net 2 0) (drop 4 net) ∙ ap (min (getD net 2 0)) (length-drop 4 net)
 
   pub next-count : (l : ℕ) → l ≡ getD net 2 0 → min (min l (base .latches)) (length net - min 4 (length net)) ≡ min (base .latches) (length (netNexts net))
-  next-count l e = ap (min (min l (base .latches))) (behind (length net)) ∙ turned l (base .latches) (length net - 4) ∙ ap (λ (n : ℕ). min (base .latches) (min n (length net - 4))) e ∙ ap (min (base .latches)) (sym nexts-length)
+  next-count l e = ap (min (min l (base .latches))) (behind (length net)) ∙ turned l (base .latches) (length net - 4)
+      ∙ ap (λ (n : ℕ). min (base .latches) (min n (length net - 4))) e ∙ ap (min (base .latches)) (sym nexts-length)
     where
       behind : (n : ℕ) → n - min 4 n ≡ n - 4
       behind n = omega arith
@@ -61,7 +64,8 @@ module _ (net : List ℕ) where
 
   pub next-is-sum : (lits : Truths) → nextIn net lits ≡ sum 2 (table (nextBit lits) (min (base .latches) (length (netNexts net))))
   unfolding nextIn nextBit netNexts netLatches
-  next-is-sum lits = ap (sum 2) (ap (map bit) (sym (table-getD ls 0)) ∙ map-table bit (λ i. getD ls i 0) (length ls) ∙ table-same _ _ (length ls) at ∙ ap (table (nextBit lits)) long)
+  next-is-sum lits = ap (sum 2) (ap (map bit) (sym (table-getD ls 0)) ∙ map-table bit (λ i. getD ls i 0) (length ls) ∙ table-same _ _ (length ls) at
+      ∙ ap (table (nextBit lits)) long)
     where
       bit : ℕ → ℕ
       bit l = oneIf (lits (l % literals))
@@ -76,4 +80,5 @@ module _ (net : List ℕ) where
       long = length-take (base .latches) nexts
 
       at : (i : ℕ) → i < length ls → bit (getD ls i 0) ≡ nextBit lits i
-      at i h = ap bit (getD-take (base .latches) nexts i 0 (omega (arith, long)) ∙ getD-take (getD net 2 0) (drop 4 net) i 0 (omega (arith, long, length-take (getD net 2 0) (drop 4 net))) ∙ getD-drop 4 net i 0)
+      at i h = ap bit (getD-take (base .latches) nexts i 0 (omega (arith, long)) ∙ getD-take (getD net 2 0) (drop 4 net) i 0
+          (omega (arith, long, length-take (getD net 2 0) (drop 4 net))) ∙ getD-drop 4 net i 0)

@@ -19,11 +19,13 @@ bit-odd n k = refl
 
 pub move-low : (block j c : ℕ) → j < width → c < 6 → odd (j / 2 ^ c) ≡ odd (moveIn block j / 2 ^ c)
 unfolding moveIn
-move-low block j c h l = bit-odd j c ∙ ap (λ (n : ℕ). eqb n 1) (sym (ap (λ (n : ℕ). bit n c) (digits-mod block {m = width} {r = j} h)) ∙ bit-mod (block * width + j) 6 c l) ∙ sym (bit-odd (block * width + j) c)
+move-low block j c h l = bit-odd j c ∙ ap (λ (n : ℕ). eqb n 1) (sym (ap (λ (n : ℕ). bit n c) (digits-mod block {m = width} {r = j} h))
+    ∙ bit-mod (block * width + j) 6 c l) ∙ sym (bit-odd (block * width + j) c)
 
 pub move-high : (block j c : ℕ) → j < width → 6 ≤ c → odd (block / 2 ^ (c - 6)) ≡ odd (moveIn block j / 2 ^ c)
 unfolding moveIn
-move-high block j c h l = ap odd (sym (ap (λ (n : ℕ). n / 2 ^ (c - 6)) (digits-div block {m = width} {r = j} h)) ∙ shr-shr (block * width + j) 6 (c - 6) ∙ ap (λ (n : ℕ). (block * width + j) / 2 ^ n) six)
+move-high block j c h l = ap odd (sym (ap (λ (n : ℕ). n / 2 ^ (c - 6)) (digits-div block {m = width} {r = j} h)) ∙ shr-shr (block * width + j) 6 (c - 6)
+    ∙ ap (λ (n : ℕ). (block * width + j) / 2 ^ n) six)
   where
     six : 6 + (c - 6) ≡ c
     six = omega arith
@@ -34,4 +36,6 @@ ownBits word c = every (λ j. eqb (word / 2 ^ j % 2) (j / 2 ^ c % 2)) width
 
 pub own-bits : (word c n j : ℕ) → ownBits word c ≡ true → n ≡ c → j < width → lane word j ≡ odd (j / 2 ^ n)
 unfolding lane odd ownBits
-own-bits word c n j e q h = ap (λ (m : ℕ). eqb m 1) (eqb-true (word / 2 ^ j % 2) (j / 2 ^ c % 2) (every-at (λ j. eqb (word / 2 ^ j % 2) (j / 2 ^ c % 2)) width j e h)) ∙ ap (λ (m : ℕ). eqb (j / 2 ^ m % 2) 1) (sym q)
+own-bits word c n j e q h = ap (λ (m : ℕ). eqb m 1)
+    (eqb-true (word / 2 ^ j % 2) (j / 2 ^ c % 2) (every-at (λ j. eqb (word / 2 ^ j % 2) (j / 2 ^ c % 2)) width j e h))
+    ∙ ap (λ (m : ℕ). eqb (j / 2 ^ m % 2) 1) (sym q)

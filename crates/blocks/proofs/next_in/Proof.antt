@@ -17,8 +17,13 @@ use Rattle.blocks.proofs.laws.LookUp.{nextBit, next-bit-small, next-is-
 use Rattle.blocks.proofs.next_in.Statement.{statement}
 use Rattle.blocks.proofs.next_in.Tie as tie
 
-fits : (net : List ℕ) (lits : Truths) (k state : ℕ) → FromTop (nextBit net lits) (min (base .latches) (length (netNexts net))) k state → state < 2 ^ base .latches
-fits net lits k state b = omega (arith, top-fits (nextBit net lits) (min (base .latches) (length (netNexts net))) (next-bit-small net lits) k state b, pow-le-pow-right {n = 2} two few)
+fits : (net : List ℕ) (lits : Truths) (k state : ℕ) → FromTop (nextBit net lits) (min (base .latches) (length (netNexts net))) k state
+    → state < 2 ^ base .latches
+fits net lits k state b = omega (
+  arith,
+  top-fits (nextBit net lits) (min (base .latches) (length (netNexts net))) (next-bit-small net lits) k state b,
+  pow-le-pow-right {n = 2} two few,
+)
   where
     two : 1 ≤ 2
     two = omega arith
@@ -36,7 +41,8 @@ nexts-requires : tie.Need-nexts-requires Inv-loop μ-loop
 nexts-requires c κs = search needs
 
 loop-holds : tie.Need-loop-holds Inv-loop μ-loop
-loop-holds c = let a = c .before .before .before .args in rw (c .nexts .ensures) (top-start (nextBit (a .net .now) (litsIn (a .words .now) (a .j))) (min (base .latches) (length (netNexts (a .net .now)))))
+loop-holds c = let a = c .before .before .before .args in rw (c .nexts .ensures) (top-start (nextBit (a .net .now) (litsIn (a .words .now) (a .j)))
+    (min (base .latches) (length (netNexts (a .net .now)))))
 
 sub-k : tie.Need-sub-k Inv-loop μ-loop
 sub-k c = search needs
@@ -78,7 +84,10 @@ loop-again c = let a = c .before .before .before .before .before .before .before
     let l = c .before .before .before .before .before .before .loop in
     let f = nextBit (a .net .now) (litsIn (a .words .now) (a .j)) in
     let n = min (base .latches) (length (netNexts (a .net .now))) in
-    let b : c .one-if .result ≡ f (l .k - 1) = c .one-if .ensures ∙ ap oneIf (c .before .is-lane .ensures ∙ ap (λ (w : ℕ). lane w (a .j)) (c .before .before .word-at .ensures ∙ ap (λ (l : ℕ). getD (a .words .now) l 0) (c .before .before .before .place .ensures ∙ ap (λ (l : ℕ). l % literals) (c .before .before .before .before .number-at .ensures)))) in
+    let b : c .one-if .result ≡ f (l .k - 1) = c .one-if .ensures
+    ∙ ap oneIf (c .before .is-lane .ensures ∙ ap (λ (w : ℕ). lane w (a .j)) (c .before .before .word-at .ensures
+    ∙ ap (λ (l : ℕ). getD (a .words .now) l 0) (c .before .before .before .place .ensures
+    ∙ ap (λ (l : ℕ). l % literals) (c .before .before .before .before .number-at .ensures)))) in
     rw b (top-next f n (l .k - 1) (l .state) (subst (λ (m : ℕ). FromTop f n m (l .state)) (omega arith) (l .inv)))
 
 returns : tie.Need-returns Inv-loop μ-loop
@@ -86,7 +95,8 @@ returns c = let a = c .before .before .before .before .before .args in
     let l = c .before .loop in
     let f = nextBit (a .net .now) (litsIn (a .words .now) (a .j)) in
     let n = min (base .latches) (length (netNexts (a .net .now))) in
-    top-end f n (l .state) (subst (λ (m : ℕ). FromTop f n m (l .state)) (omega arith) (l .inv)) ∙ sym (next-is-sum (a .net .now) (litsIn (a .words .now) (a .j)))
+    top-end f n (l .state) (subst (λ (m : ℕ). FromTop f n m (l .state)) (omega arith) (l .inv))
+    ∙ sym (next-is-sum (a .net .now) (litsIn (a .words .now) (a .j)))
 
 pub next-in-spec : {M : Type 1} → statement M
 next-in-spec =

@@ -26,7 +26,9 @@ fewer-requires-3 : tie.Need-fewer-requires-3
 fewer-requires-3 c κs = search needs
 
 returns : tie.Need-returns
-returns c = let a = c .before .before .before .before .before .args in c .fewer3 .ensures ∙ (λ x. min (c .before .before .fewer .ensures x) (length (a .net .now) - c .before .fewer2 .ensures x)) ∙ next-count (a .net .now) (c .before .before .before .number-at .result) (c .before .before .before .number-at .ensures)
+returns c = let a = c .before .before .before .before .before .args in c .fewer3 .ensures
+    ∙ (λ x. min (c .before .before .fewer .ensures x) (length (a .net .now) - c .before .fewer2 .ensures x))
+    ∙ next-count (a .net .now) (c .before .before .before .number-at .result) (c .before .before .before .number-at .ensures)
 
 pub nexts-spec : {M : Type 1} → statement M
 nexts-spec =

@@ -17,7 +17,13 @@ use Rattle.game.specs.NetGame.{netMove, netGame, keepsBy}
 
 pub net-game : (c : Circuit) → netGame (netOf c) ≡ circuitGame c
 unfolding netGame netMove circuitGame netOf netControls netReadings netLatches
-net-game c = λ x. record { states = 2 ^ netLatches (netOf c); readings = 2 ^ netReadings (netOf c); controls = 2 ^ netControls (netOf c); step = λ s r k. net-step-is c s r k x }
+net-game c = λ x. record {
+  states = 2 ^ netLatches (netOf c);
+  readings = 2 ^ netReadings (netOf c);
+  controls = 2 ^ netControls (netOf c);
+  step = λ s r
+      k. net-step-is c s r k x;
+}
 
 module _ (net : List ℕ) (order : InOrder net) (set : ℕ → Bool) (s r k move : ℕ) (before lits : Truths) where
   pub block-keeps : move ≡ netMove net s r k → lits ≡ evaluated net move before → keepsBy set net lits ≡ keeps (netGame net) set s r k

@@ -53,7 +53,8 @@ net-in-order c room =
     }
   where
     ordered : GatesInOrder (netOperands (netOf c)) (suc (moveBits (netOf c))) (gateStart c + length (c .gates))
-    ordered = rw (net-operands c, net-move-bits c) (operands-in-order (c .gates) (gateStart c) (gateStart c + length (c .gates)) (firstNames c) (first-below c) refl)
+    ordered = rw (net-operands c, net-move-bits c) (operands-in-order (c .gates) (gateStart c) (gateStart c + length (c .gates)) (firstNames c)
+        (first-below c) refl)
 
     few-latches : netLatches (netOf c) ≤ base .latches
     few-latches = rw (net-latches c) (latches-fit c room)

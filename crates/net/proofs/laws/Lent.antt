@@ -26,8 +26,23 @@ unfolding meant lent latchesOf gatesOf
 meant-room v i g =
     record {
       inputs = omega (arith, length-inputs (take (v .inputs) (v .input)) (v .controllable), length-take (v .inputs) (v .input), i);
-      latches = omega (arith, length-table {A = Latch} (λ n. record { own = literalOf (getD (take (v .latches) (v .latch)) n 0); next = literalOf (getD (v .next) n 0) }) (min (length (take (v .latches) (v .latch))) (base .latches)));
-      gates = omega (arith, length-table {A = Gate} (λ n. record { own = literalOf (getD (take (v .gates) (v .gate)) n 0); left = literalOf (getD (v .left) n 0); right = literalOf (getD (v .right) n 0) }) (length (take (v .gates) (v .gate))), length-take (v .gates) (v .gate), g);
+      latches = omega (
+        arith,
+        length-table {A = Latch} (λ n. record {
+          own = literalOf (getD (take (v .latches) (v .latch)) n 0);
+          next = literalOf (getD (v .next) n 0);
+        }) (min (length (take (v .latches) (v .latch))) (base .latches)),
+      );
+      gates = omega (
+        arith,
+        length-table {A = Gate} (λ n. record {
+          own = literalOf (getD (take (v .gates) (v .gate)) n 0);
+          left = literalOf (getD (v .left) n 0);
+          right = literalOf (getD (v .right) n 0);
+        }) (length (take (v .gates) (v .gate))),
+        length-take (v .gates) (v .gate),
+        g,
+      );
     }
 
 module _ (c : Circuit) (room : Room c) where
@@ -45,7 +60,8 @@ module _ (c : Circuit) (room : Room c) where
 
   pub lent-net : (made : Net) → MadeAs (netOf c) made → take (made .length) (made .numbers) ≡ netOf c
   lent-net made m =
-      ap (take (made .length)) (m .numbers ∙ sym (over-zeros most (netOf c) net-most) ∙ sets-front zeros (netOf c) (omega (arith, net-most, length-table {A = ℕ} (λ i. 0) most)))
+      ap (take (made .length)) (m .numbers ∙ sym (over-zeros most (netOf c) net-most)
+      ∙ sets-front zeros (netOf c) (omega (arith, net-most, length-table {A = ℕ} (λ i. 0) most)))
       ∙ take-at (netOf c) (drop (length (netOf c)) zeros) (made .length) (sym (m .length))
     where
       zeros : List ℕ

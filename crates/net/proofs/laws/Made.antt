@@ -58,7 +58,10 @@ unfolding operandsOf
 operands-long [] v names = refl
 operands-long (g ∷ gs) v names = omega (arith, operands-long gs (suc v) (name (variable (g .own)) v names))
 
-module _ (largest : ℕ) (input controllable latch next : List ℕ) (output : ℕ) (gate left right : List ℕ) (inputs latches gates controls : ℕ) (inputs-room : inputs ≤ length input) (latches-room : latches ≤ length latch) (gates-room : gates ≤ length gate) (inputs-few : inputs ≤ base .inputs) (latches-few : latches ≤ base .latches) (gates-few : gates ≤ base .variable) (counted : controls ≡ inputsThat (λ (i : Input). i .controllable) (inputsOf (take inputs input) controllable)) where
+module _ (largest : ℕ) (input controllable latch next : List ℕ) (output : ℕ) (gate left right : List ℕ) (inputs latches gates controls : ℕ)
+    (inputs-room : inputs ≤ length input) (latches-room : latches ≤ length latch) (gates-room : gates ≤ length gate) (inputs-few : inputs ≤ base .inputs)
+    (latches-few : latches ≤ base .latches) (gates-few : gates ≤ base .variable) (counted : controls ≡ inputsThat (λ (i : Input). i .controllable)
+    (inputsOf (take inputs input) controllable)) where
   d : Circuit
   d = lent largest (take inputs input) controllable (take latches latch) next output (take gates gate) left right
 
@@ -68,7 +71,13 @@ module _ (largest : ℕ) (input controllable latch next : List ℕ) (output : �
 
   inputs-are : inputs ≡ controllableCount d + uncontrollableCount d
   unfolding d lent controllableCount uncontrollableCount
-  inputs-are = omega (arith, inputs-parted (λ (i : Input). i .controllable) (inputsOf (take inputs input) controllable), length-inputs (take inputs input) controllable, length-take inputs input)
+  inputs-are = omega (
+    arith,
+    inputs-parted (λ (i : Input). i .controllable) (inputsOf (take inputs input) controllable),
+    length-inputs (take inputs input)
+        controllable,
+    length-take inputs input,
+  )
 
   readings-are : inputs - controls ≡ uncontrollableCount d
   readings-are = omega (arith, inputs-are, controls-are)
@@ -78,34 +87,56 @@ module _ (largest : ℕ) (input controllable latch next : List ℕ) (output : �
 
   latches-are : latches ≡ latchCount d
   unfolding d lent latchCount latchesOf
-  latches-are = omega (arith, length-table {A = Latch} (λ i. record { own = literalOf (getD (take latches latch) i 0); next = literalOf (getD next i 0) }) (min (length (take latches latch)) (base .latches)), length-take latches latch)
+  latches-are = omega (
+    arith,
+    length-table {A = Latch} (λ i. record { own = literalOf (getD (take latches latch) i 0); next = literalOf (getD next i 0) })
+        (min (length (take latches latch)) (base .latches)),
+    length-take latches latch,
+  )
 
   gates-are : gates ≡ length (gatesOf (take gates gate) left right)
   unfolding gatesOf
-  gates-are = omega (arith, length-table {A = Gate} (λ i. record { own = literalOf (getD (take gates gate) i 0); left = literalOf (getD left i 0); right = literalOf (getD right i 0) }) (length (take gates gate)), length-take gates gate)
+  gates-are = omega (
+    arith,
+    length-table {A = Gate} (λ i. record {
+      own = literalOf (getD (take gates gate) i 0);
+      left = literalOf (getD left i 0);
+      right = literalOf
+          (getD right i 0);
+    }) (length (take gates gate)),
+    length-take gates gate,
+  )
 
   start-is : 1 + inputs + latches ≡ gateStart d
   unfolding gateStart
   start-is = omega (arith, inputs-are, latches-are)
 
-  pub first-are : (n0 n1 n2 : Names) → n0 ≡ (λ v. 0) → n1 ≡ nameInputs (inputsOf (take inputs input) controllable) 1 (1 + controls) n0 → n2 ≡ nameLatches (latchesOf (take latches latch) next) (1 + inputs) n1 → n2 ≡ firstNames (lent largest (take inputs input) controllable (take latches latch) next output (take gates gate) left right)
+  pub first-are : (n0 n1 n2 : Names) → n0 ≡ (λ v. 0) → n1 ≡ nameInputs (inputsOf (take inputs input) controllable) 1 (1 + controls) n0
+      → n2 ≡ nameLatches (latchesOf (take latches latch) next) (1 + inputs) n1
+      → n2 ≡ firstNames (lent largest (take inputs input) controllable (take latches latch) next output (take gates gate) left right)
   unfolding firstNames lent d
-  first-are n0 n1 n2 e0 e1 e2 = e2 ∙ rw (e1, e0) (λ x. nameLatches (latchesOf (take latches latch) next) (behind x) (nameInputs (inputsOf (take inputs input) controllable) 1 (1 + controls-are x) (λ v. 0)))
+  first-are n0 n1 n2 e0 e1 e2 = e2 ∙ rw (e1, e0) (λ x. nameLatches (latchesOf (take latches latch) next) (behind x)
+      (nameInputs (inputsOf (take inputs input) controllable) 1 (1 + controls-are x) (λ v. 0)))
     where
       behind : 1 + inputs ≡ 1 + controllableCount d + uncontrollableCount d
       behind = omega (arith, inputs-are)
 
-  pub first-under : (n2 : Names) → n2 ≡ firstNames (lent largest (take inputs input) controllable (take latches latch) next output (take gates gate) left right) → Below (1 + inputs + latches) n2
+  pub first-under : (n2 : Names) → n2 ≡ firstNames (lent largest (take inputs input) controllable (take latches latch) next output (take gates gate) left
+      right) → Below (1 + inputs + latches) n2
   unfolding d
   first-under n2 e = rw (start-is, e) (first-below d)
 
-  pub all-are : (n2 n3 : Names) → n2 ≡ firstNames (lent largest (take inputs input) controllable (take latches latch) next output (take gates gate) left right) → n3 ≡ nameGates (gatesOf (take gates gate) left right) (1 + inputs + latches) n2 → n3 ≡ allNames (lent largest (take inputs input) controllable (take latches latch) next output (take gates gate) left right)
+  pub all-are : (n2 n3 : Names) → n2 ≡ firstNames (lent largest (take inputs input) controllable (take latches latch) next output (take gates gate) left
+      right) → n3 ≡ nameGates (gatesOf (take gates gate) left right) (1 + inputs + latches) n2
+      → n3 ≡ allNames (lent largest (take inputs input) controllable (take latches latch) next output (take gates gate) left right)
   unfolding allNames lent d
   all-are n2 n3 e2 e3 = e3 ∙ λ x. nameGates (gatesOf (take gates gate) left right) (start-is x) (e2 x)
 
-  pub all-under : (n3 : Names) → n3 ≡ allNames (lent largest (take inputs input) controllable (take latches latch) next output (take gates gate) left right) → Below variables n3
+  pub all-under : (n3 : Names) → n3 ≡ allNames (lent largest (take inputs input) controllable (take latches latch) next output (take gates gate) left right)
+      → Below variables n3
   unfolding d lent
-  all-under n3 e = rw e (below-more (gateStart d + length (gatesOf (take gates gate) left right)) variables (allNames d) (all-below d) (omega (arith, start-is, gates-are)))
+  all-under n3 e = rw e (below-more (gateStart d + length (gatesOf (take gates gate) left right)) variables (allNames d) (all-below d)
+      (omega (arith, start-is, gates-are)))
 
   nexts : List ℕ
   nexts = map (λ (l : Latch). netLiteral (allNames d) (l .next)) (latchesOf (take latches latch) next)
@@ -121,7 +152,8 @@ module _ (largest : ℕ) (input controllable latch next : List ℕ) (output : �
   unfolding operands
   operands-all = operands-long (gatesOf (take gates gate) left right) (gateStart d) (firstNames d) ∙ omega (arith, gates-are)
 
-  pub net-length : 4 + latches + 2 * gates ≡ length (netOf (lent largest (take inputs input) controllable (take latches latch) next output (take gates gate) left right))
+  pub net-length : 4 + latches + 2 * gates ≡ length (netOf (lent largest (take inputs input) controllable (take latches latch) next output (take gates gate)
+      left right))
   unfolding netOf lent d nexts operands
   net-length = omega (arith, length-append nexts operands, nexts-long, operands-all)
 
@@ -129,7 +161,12 @@ module _ (largest : ℕ) (input controllable latch next : List ℕ) (output : �
   unfolding netOf lent d nexts operands
   net-parts = refl
 
-  pub net-made : (m0 m1 m2 m3 : List ℕ) (n2 n3 : Names) (out : ℕ) → n2 ≡ firstNames (lent largest (take inputs input) controllable (take latches latch) next output (take gates gate) left right) → n3 ≡ allNames (lent largest (take inputs input) controllable (take latches latch) next output (take gates gate) left right) → m0 ≡ table (λ i. 0) most → m1 ≡ sets m0 (4 + latches) (operandsOf (gatesOf (take gates gate) left right) (1 + inputs + latches) n2) → m2 ≡ sets m1 4 (map (λ (l : Latch). netLiteral n3 (l .next)) (latchesOf (take latches latch) next)) → out ≡ netLiteral n3 (literalOf output) → m3 ≡ sets m2 0 (controls ∷ (inputs - controls) ∷ latches ∷ out ∷ []) → m3 ≡ padded most (netOf (lent largest (take inputs input) controllable (take latches latch) next output (take gates gate) left right))
+  pub net-made : (m0 m1 m2 m3 : List ℕ) (n2 n3 : Names) (out : ℕ) → n2 ≡ firstNames (lent largest (take inputs input) controllable (take latches latch) next
+      output (take gates gate) left right) → n3 ≡ allNames (lent largest (take inputs input) controllable (take latches latch) next output (take gates gate)
+      left right) → m0 ≡ table (λ i. 0) most → m1 ≡ sets m0 (4 + latches) (operandsOf (gatesOf (take gates gate) left right) (1 + inputs + latches) n2)
+      → m2 ≡ sets m1 4 (map (λ (l : Latch). netLiteral n3 (l .next)) (latchesOf (take latches latch) next)) → out ≡ netLiteral n3 (literalOf output)
+      → m3 ≡ sets m2 0 (controls ∷ (inputs - controls) ∷ latches ∷ out ∷ [])
+      → m3 ≡ padded most (netOf (lent largest (take inputs input) controllable (take latches latch) next output (take gates gate) left right))
   unfolding d nexts operands
   net-made m0 m1 m2 m3 n2 n3 out e2 e3 z p1 p2 po p3 =
       p3
@@ -191,37 +228,53 @@ module _ (v : Value) (inputs latches gates controls : ℕ) (k : Counts v inputs 
   g-few = omega (arith, k .gates-read)
 
   made : Circuit
-  made = lent (v .largest) (take inputs (v .input)) (v .controllable) (take latches (v .latch)) (v .next) (v .output) (take gates (v .gate)) (v .left) (v .right)
+  made = lent (v .largest) (take inputs (v .input)) (v .controllable) (take latches (v .latch)) (v .next) (v .output) (take gates (v .gate)) (v .left)
+      (v .right)
 
   is-meant : made ≡ meant v
   unfolding made meant
-  is-meant = lent-counted (v .largest) (v .input) (v .controllable) (v .latch) (v .next) (v .output) (v .gate) (v .left) (v .right) (v .inputs) (v .latches) (v .gates) inputs latches gates (k .inputs-read ∙ ap (min (v .inputs)) (sym (k .input-long))) (k .latches-read ∙ ap (min (v .latches)) (sym (k .latch-long))) (k .gates-read ∙ ap (min (v .gates)) (sym (k .gate-long)))
+  is-meant = lent-counted (v .largest) (v .input) (v .controllable) (v .latch) (v .next) (v .output) (v .gate) (v .left) (v .right) (v .inputs) (v .latches)
+      (v .gates) inputs latches gates (k .inputs-read ∙ ap (min (v .inputs)) (sym (k .input-long))) (k .latches-read
+      ∙ ap (min (v .latches)) (sym (k .latch-long))) (k .gates-read ∙ ap (min (v .gates)) (sym (k .gate-long)))
 
   pub controls-few : controls ≤ inputs
-  controls-few = controls-most (v .largest) (v .input) (v .controllable) (v .latch) (v .next) (v .output) (v .gate) (v .left) (v .right) inputs latches gates controls i-room l-room g-room i-few l-few g-few (k .controls-read)
+  controls-few = controls-most (v .largest) (v .input) (v .controllable) (v .latch) (v .next) (v .output) (v .gate) (v .left) (v .right) inputs latches
+      gates controls i-room l-room g-room i-few l-few g-few (k .controls-read)
 
-  module _ (n0 n1 n2 : Names) (e0 : n0 ≡ (λ u. 0)) (e1 : n1 ≡ nameInputs (inputsOf (take inputs (v .input)) (v .controllable)) 1 (1 + controls) n0) (e2 : n2 ≡ nameLatches (latchesOf (take latches (v .latch)) (v .next)) (1 + inputs) n1) where
+  module _ (n0 n1 n2 : Names) (e0 : n0 ≡ (λ u. 0)) (e1 : n1 ≡ nameInputs (inputsOf (take inputs (v .input)) (v .controllable)) 1 (1 + controls) n0)
+      (e2 : n2 ≡ nameLatches (latchesOf (take latches (v .latch)) (v .next)) (1 + inputs) n1) where
     first-is : n2 ≡ firstNames made
     unfolding made
-    first-is = first-are (v .largest) (v .input) (v .controllable) (v .latch) (v .next) (v .output) (v .gate) (v .left) (v .right) inputs latches gates controls i-room l-room g-room i-few l-few g-few (k .controls-read) n0 n1 n2 e0 e1 e2
+    first-is = first-are (v .largest) (v .input) (v .controllable) (v .latch) (v .next) (v .output) (v .gate) (v .left) (v .right) inputs latches gates
+        controls i-room l-room g-room i-few l-few g-few (k .controls-read) n0 n1 n2 e0 e1 e2
 
     pub first-within : Below (1 + inputs + latches) n2
     unfolding made
-    first-within = first-under (v .largest) (v .input) (v .controllable) (v .latch) (v .next) (v .output) (v .gate) (v .left) (v .right) inputs latches gates controls i-room l-room g-room i-few l-few g-few (k .controls-read) n2 first-is
+    first-within = first-under (v .largest) (v .input) (v .controllable) (v .latch) (v .next) (v .output) (v .gate) (v .left) (v .right) inputs latches
+        gates controls i-room l-room g-room i-few l-few g-few (k .controls-read) n2 first-is
 
     module _ (n3 : Names) (e3 : n3 ≡ nameGates (gatesOf (take gates (v .gate)) (v .left) (v .right)) (1 + inputs + latches) n2) where
       all-is : n3 ≡ allNames made
       unfolding made
-      all-is = all-are (v .largest) (v .input) (v .controllable) (v .latch) (v .next) (v .output) (v .gate) (v .left) (v .right) inputs latches gates controls i-room l-room g-room i-few l-few g-few (k .controls-read) n2 n3 first-is e3
+      all-is = all-are (v .largest) (v .input) (v .controllable) (v .latch) (v .next) (v .output) (v .gate) (v .left) (v .right) inputs latches gates
+          controls i-room l-room g-room i-few l-few g-few (k .controls-read) n2 n3 first-is e3
 
       pub all-within : Below variables n3
       unfolding made
-      all-within = all-under (v .largest) (v .input) (v .controllable) (v .latch) (v .next) (v .output) (v .gate) (v .left) (v .right) inputs latches gates controls i-room l-room g-room i-few l-few g-few (k .controls-read) n3 all-is
+      all-within = all-under (v .largest) (v .input) (v .controllable) (v .latch) (v .next) (v .output) (v .gate) (v .left) (v .right) inputs latches gates
+          controls i-room l-room g-room i-few l-few g-few (k .controls-read) n3 all-is
 
-      pub value-made : (m0 m1 m2 m3 : List ℕ) (out : ℕ) → m0 ≡ table (λ i. 0) most → m1 ≡ sets m0 (4 + latches) (operandsOf (gatesOf (take gates (v .gate)) (v .left) (v .right)) (1 + inputs + latches) n2) → m2 ≡ sets m1 4 (map (λ (l : Latch). netLiteral n3 (l .next)) (latchesOf (take latches (v .latch)) (v .next))) → out ≡ netLiteral n3 (literalOf (v .output)) → m3 ≡ sets m2 0 (controls ∷ (inputs - controls) ∷ latches ∷ out ∷ []) → MadeAs (netOf (meant v)) (record { numbers = m3; length = 4 + latches + 2 * gates })
+      pub value-made : (m0 m1 m2 m3 : List ℕ) (out : ℕ) → m0 ≡ table (λ i. 0) most
+          → m1 ≡ sets m0 (4 + latches) (operandsOf (gatesOf (take gates (v .gate)) (v .left) (v .right)) (1 + inputs + latches) n2)
+          → m2 ≡ sets m1 4 (map (λ (l : Latch). netLiteral n3 (l .next)) (latchesOf (take latches (v .latch)) (v .next)))
+          → out ≡ netLiteral n3 (literalOf (v .output)) → m3 ≡ sets m2 0 (controls ∷ (inputs - controls) ∷ latches ∷ out ∷ [])
+          → MadeAs (netOf (meant v)) (record { numbers = m3; length = 4 + latches + 2 * gates })
       unfolding made
       value-made m0 m1 m2 m3 out z p1 p2 po p3 =
           record {
-            numbers = net-made (v .largest) (v .input) (v .controllable) (v .latch) (v .next) (v .output) (v .gate) (v .left) (v .right) inputs latches gates controls i-room l-room g-room i-few l-few g-few (k .controls-read) m0 m1 m2 m3 n2 n3 out first-is all-is z p1 p2 po p3 ∙ ap (λ (c : Circuit). padded most (netOf c)) is-meant;
-            length = net-length (v .largest) (v .input) (v .controllable) (v .latch) (v .next) (v .output) (v .gate) (v .left) (v .right) inputs latches gates controls i-room l-room g-room i-few l-few g-few (k .controls-read) ∙ ap (λ (c : Circuit). length (netOf c)) is-meant;
+            numbers = net-made (v .largest) (v .input) (v .controllable) (v .latch) (v .next) (v .output) (v .gate) (v .left) (v .right) inputs latches
+                gates controls i-room l-room g-room i-few l-few g-few (k .controls-read) m0 m1 m2 m3 n2 n3 out first-is all-is z p1 p2 po p3
+                ∙ ap (λ (c : Circuit). padded most (netOf c)) is-meant;
+            length = net-length (v .largest) (v .input) (v .controllable) (v .latch) (v .next) (v .output) (v .gate) (v .left) (v .right) inputs latches
+                gates controls i-room l-room g-room i-few l-few g-few (k .controls-read) ∙ ap (λ (c : Circuit). length (netOf c)) is-meant;
           }

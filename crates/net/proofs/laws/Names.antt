@@ -39,7 +39,8 @@ name-below n v w names b h u = by (eqb u v)
 pub below-more : (n m : ℕ) (names : Names) → Below n names → n ≤ m → Below m names
 below-more n m names b h v = omega (arith, b v)
 
-pub inputs-below : (n : ℕ) (is : List Input) (k r : ℕ) (names : Names) → k + inputsThat (λ (i : Input). i .controllable) is ≤ n → r + inputsThat (λ (i : Input). not (i .controllable)) is ≤ n → Below n names → Below n (nameInputs is k r names)
+pub inputs-below : (n : ℕ) (is : List Input) (k r : ℕ) (names : Names) → k + inputsThat (λ (i : Input). i .controllable) is ≤ n
+    → r + inputsThat (λ (i : Input). not (i .controllable)) is ≤ n → Below n names → Below n (nameInputs is k r names)
 unfolding nameInputs inputsThat
 inputs-below n [] k r names h g b = b
 inputs-below n (i ∷ is) k r names h g b = by (i .controllable) h g (inputs-below n is)
@@ -50,7 +51,9 @@ inputs-below n (i ∷ is) k r names h g b = by (i .controllable) h g (inputs-bel
     us : ℕ
     us = inputsThat (λ (i : Input). not (i .controllable)) is
 
-    by : (t : Bool) → k + cond t (suc cs) cs ≤ n → r + cond (not t) (suc us) us ≤ n → ((k r : ℕ) (names : Names) → k + cs ≤ n → r + us ≤ n → Below n names → Below n (nameInputs is k r names)) → Below n (cond t (nameInputs is (suc k) r (name (variable (i .own)) k names)) (nameInputs is k (suc r) (name (variable (i .own)) r names)))
+    by : (t : Bool) → k + cond t (suc cs) cs ≤ n → r + cond (not t) (suc us) us ≤ n → ((k r : ℕ) (names : Names) → k + cs ≤ n → r + us ≤ n → Below n names
+        → Below n (nameInputs is k r names))
+        → Below n (cond t (nameInputs is (suc k) r (name (variable (i .own)) k names)) (nameInputs is k (suc r) (name (variable (i .own)) r names)))
     by true h g more = more (suc k) r _ (omega arith) g (name-below n (variable (i .own)) k names b (omega arith))
     by false h g more = more k (suc r) _ h (omega arith) (name-below n (variable (i .own)) r names b (omega arith))
 

@@ -34,7 +34,8 @@ name-set names v w h = fun-ext (λ u. elim (ℕ-discrete u v) [ yes e ↦ here u
 -- no variable has a name where each number is 0
 pub names-none : (n : ℕ) (names : List ℕ) → names ≡ table (λ i. 0) n → namesIn names ≡ (λ v. 0)
 unfolding namesIn
-names-none n names e = ap (λ (l : List ℕ). λ v. getD l v 0) e ∙ fun-ext (λ v. elim (decLt v n) [ yes h ↦ getD-table (λ i. 0) n v 0 h | no h ↦ getD-table-past (λ i. 0) n v 0 (omega arith) ])
+names-none n names e = ap (λ (l : List ℕ). λ v. getD l v 0) e
+    ∙ fun-ext (λ v. elim (decLt v n) [ yes h ↦ getD-table (λ i. 0) n v 0 h | no h ↦ getD-table-past (λ i. 0) n v 0 (omega arith) ])
 
 fit : (n : ℕ) (l : List ℕ) → n ≤ length l → length (take n l) ≡ n
 fit n l h = omega (arith, length-take n l)
@@ -43,15 +44,21 @@ module _ (input controllable : List ℕ) (inputs : ℕ) (room : inputs ≤ lengt
   inputAt : ℕ → Input
   inputAt i = record { own = literalOf (getD (take inputs input) i 0); controllable = not (eqb (getD controllable i 0) 0) }
 
-  named-input : (x : Input) (xs : List Input) (k r : ℕ) (names : Names) → nameInputs (x ∷ xs) k r names ≡ nameInputs xs (cond (x .controllable) (k + 1) k) (cond (not (x .controllable)) (r + 1) r) (name (variable (x .own)) (cond (x .controllable) k r) names)
+  named-input : (x : Input) (xs : List Input) (k r : ℕ) (names : Names) → nameInputs (x ∷ xs) k r names ≡ nameInputs xs (cond (x .controllable) (k + 1) k)
+      (cond (not (x .controllable)) (r + 1) r) (name (variable (x .own)) (cond (x .controllable) k r) names)
   unfolding nameInputs
   named-input x xs k r names = by (x .controllable)
     where
-      by : (b : Bool) → cond b (nameInputs xs (suc k) r (name (variable (x .own)) k names)) (nameInputs xs k (suc r) (name (variable (x .own)) r names)) ≡ nameInputs xs (cond b (k + 1) k) (cond (not b) (r + 1) r) (name (variable (x .own)) (cond b k r) names)
+      by : (b : Bool) → cond b (nameInputs xs (suc k) r (name (variable (x .own)) k names))
+          (nameInputs xs k (suc r) (name (variable (x .own)) r names)) ≡ nameInputs xs (cond b (k + 1) k) (cond (not b) (r + 1) r)
+          (name (variable (x .own)) (cond b k r) names)
       by true = rw add-one
       by false = rw add-one
 
-  pub inputs-named-next : (i k r : ℕ) (names : Names) → i < inputs → nameInputs (drop i (inputsOf (take inputs input) controllable)) k r names ≡ nameInputs (drop (i + 1) (inputsOf (take inputs input) controllable)) (cond (not (eqb (getD controllable i 0) 0)) (k + 1) k) (cond (not (not (eqb (getD controllable i 0) 0))) (r + 1) r) (name (variable (literalOf (getD input i 0))) (cond (not (eqb (getD controllable i 0) 0)) k r) names)
+  pub inputs-named-next : (i k r : ℕ) (names : Names) → i < inputs → nameInputs (drop i (inputsOf (take inputs input) controllable)) k r names ≡ nameInputs
+      (drop (i + 1) (inputsOf (take inputs input) controllable)) (cond (not (eqb (getD controllable i 0) 0)) (k + 1) k)
+      (cond (not (not (eqb (getD controllable i 0) 0))) (r + 1) r)
+      (name (variable (literalOf (getD input i 0))) (cond (not (eqb (getD controllable i 0) 0)) k r) names)
   unfolding inputsOf inputAt
   inputs-named-next i k r names h =
       ap (λ (is : List Input). nameInputs is k r names) (drop-table inputAt (length (take inputs input)) i (omega (arith, fit inputs input room)))
@@ -60,7 +67,8 @@ module _ (input controllable : List ℕ) (inputs : ℕ) (room : inputs ≤ lengt
 
   pub inputs-named-end : (i k r : ℕ) (names : Names) → inputs ≤ i → nameInputs (drop i (inputsOf (take inputs input) controllable)) k r names ≡ names
   unfolding inputsOf inputAt nameInputs
-  inputs-named-end i k r names h = ap (λ (is : List Input). nameInputs is k r names) (drop-table-all inputAt (length (take inputs input)) i (omega (arith, fit inputs input room)))
+  inputs-named-end i k r names h = ap (λ (is : List Input). nameInputs is k r names) (drop-table-all inputAt (length (take inputs input)) i
+      (omega (arith, fit inputs input room)))
 
 module _ (latch next : List ℕ) (latches : ℕ) (room : latches ≤ length latch) (few : latches ≤ base .latches) where
   latchAt : ℕ → Latch
@@ -69,7 +77,8 @@ module _ (latch next : List ℕ) (latches : ℕ) (room : latches ≤ length latc
   all : min (length (take latches latch)) (base .latches) ≡ latches
   all = omega (arith, fit latches latch room)
 
-  pub latches-named-next : (i v : ℕ) (names : Names) → i < latches → nameLatches (drop i (latchesOf (take latches latch) next)) v names ≡ nameLatches (drop (i + 1) (latchesOf (take latches latch) next)) (suc v) (name (variable (literalOf (getD latch i 0))) v names)
+  pub latches-named-next : (i v : ℕ) (names : Names) → i < latches → nameLatches (drop i (latchesOf (take latches latch) next)) v names ≡ nameLatches
+      (drop (i + 1) (latchesOf (take latches latch) next)) (suc v) (name (variable (literalOf (getD latch i 0))) v names)
   unfolding latchesOf latchAt nameLatches
   latches-named-next i v names h =
       ap (λ (ls : List Latch). nameLatches ls v names) (drop-table latchAt (min (length (take latches latch)) (base .latches)) i (omega (arith, all)))
@@ -77,7 +86,8 @@ module _ (latch next : List ℕ) (latches : ℕ) (room : latches ≤ length latc
 
   pub latches-named-end : (i v : ℕ) (names : Names) → latches ≤ i → nameLatches (drop i (latchesOf (take latches latch) next)) v names ≡ names
   unfolding latchesOf latchAt nameLatches
-  latches-named-end i v names h = ap (λ (ls : List Latch). nameLatches ls v names) (drop-table-all latchAt (min (length (take latches latch)) (base .latches)) i (omega (arith, all)))
+  latches-named-end i v names h = ap (λ (ls : List Latch). nameLatches ls v names)
+      (drop-table-all latchAt (min (length (take latches latch)) (base .latches)) i (omega (arith, all)))
 
 -- i of n are named, and what is left gives the whole
 pub record Naming (n i : ℕ) (before names : List ℕ) (whole rest : Names) : Type 0 where
@@ -85,7 +95,8 @@ pub record Naming (n i : ℕ) (before names : List ℕ) (whole rest : Names) : T
   pub long : length names ≡ length before
   pub left : whole ≡ rest
 
-pub name-one : (n i : ℕ) (before names after : List ℕ) (whole rest more : Names) → Naming n i before names whole rest → i < n → length after ≡ length names → rest ≡ more → Naming n (i + 1) before after whole more
+pub name-one : (n i : ℕ) (before names after : List ℕ) (whole rest more : Names) → Naming n i before names whole rest → i < n → length after ≡ length names
+    → rest ≡ more → Naming n (i + 1) before after whole more
 name-one n i before names after whole rest more p h l e = record { within = omega arith; long = l ∙ p .long; left = p .left ∙ e }
 
 -- the next control and the next reading are no higher than the inputs passed allow

@@ -23,7 +23,21 @@ use Rattle.step.specs.Value.{Valuation, valuation, literalValue, put, withInput
 use Rattle.step.proofs.laws.Truths.{one-if-bit}
 use Rattle.step.proofs.laws.Value.{value-constant, value-inverted, value-plain}
 use Rattle.net.specs.Move.{moveOf}
-use Rattle.net.specs.Net.{netControls, netReadings, netLatches, netOutput, netNexts, netOperands, moveBits, withMove, withOperands, netValues, netError, netNext, netStep}
+use Rattle.net.specs.Net.{
+  netControls,
+  netReadings,
+  netLatches,
+  netOutput,
+  netNexts,
+  netOperands,
+  moveBits,
+  withMove,
+  withOperands,
+  netValues,
+  netError,
+  netNext,
+  netStep,
+}
 use Rattle.net.specs.NetOf.{Names, name, netLiteral, nameInputs, nameLatches, nameGates, operandsOf, firstNames, allNames, gateStart, netOf}
 use Rattle.net.proofs.laws.Move.{control-bit, reading-bit, state-bit, with-move-at, with-move-none}
 use Rattle.net.proofs.laws.Names.{Below, name-below, below-more, inputs-below, latches-below, gates-below}
@@ -87,7 +101,9 @@ holds-first w v n number h = ap w {x = v} {y = v + 0} (omega arith) ∙ h 0 (ome
 holds-rest : (w : Valuation) (v n number : ℕ) → Holds w v (suc n) number → Holds w (suc v) n (number / 2)
 holds-rest w v n number h i l = ap w {x = suc v + i} {y = v + suc i} (omega arith) ∙ h (suc i) (omega arith) ∙ sym (halved number i)
 
-inputs-named : (w : Valuation) (is : List Input) (k r control reading : ℕ) (val : Valuation) (names : Names) → Holds w k (inputsThat (λ (i : Input). i .controllable) is) control → Holds w r (inputsThat (λ (i : Input). not (i .controllable)) is) reading → Named val w names → Named (withInputs is reading control val) w (nameInputs is k r names)
+inputs-named : (w : Valuation) (is : List Input) (k r control reading : ℕ) (val : Valuation) (names : Names)
+    → Holds w k (inputsThat (λ (i : Input). i .controllable) is) control → Holds w r (inputsThat (λ (i : Input). not (i .controllable)) is) reading
+    → Named val w names → Named (withInputs is reading control val) w (nameInputs is k r names)
 unfolding withInputs nameInputs inputsThat
 inputs-named w [] k r control reading val names hk hr named = named
 inputs-named w (i ∷ is) k r control reading val names hk hr named = by (i .controllable) hk hr (inputs-named w is)
@@ -101,19 +117,31 @@ inputs-named w (i ∷ is) k r control reading val names hk hr named = by (i .con
     us : ℕ
     us = inputsThat (λ (i : Input). not (i .controllable)) is
 
-    by : (t : Bool) → Holds w k (cond t (suc cs) cs) control → Holds w r (cond (not t) (suc us) us) reading → ((k r control reading : ℕ) (val : Valuation) (names : Names) → Holds w k cs control → Holds w r us reading → Named val w names → Named (withInputs is reading control val) w (nameInputs is k r names)) → Named (cond t (withInputs is reading (control / 2) (put v (odd control) val)) (withInputs is (reading / 2) control (put v (odd reading) val))) w (cond t (nameInputs is (suc k) r (name v k names)) (nameInputs is k (suc r) (name v r names)))
-    by true hk hr more = more (suc k) r (control / 2) reading _ _ (holds-rest w k cs control hk) hr (name-put val w names v k (odd control) named (holds-first w k cs control hk))
-    by false hk hr more = more k (suc r) control (reading / 2) _ _ hk (holds-rest w r us reading hr) (name-put val w names v r (odd reading) named (holds-first w r us reading hr))
+    by : (t : Bool) → Holds w k (cond t (suc cs) cs) control → Holds w r (cond (not t) (suc us) us) reading
+        → ((k r control reading : ℕ) (val : Valuation) (names : Names) → Holds w k cs control → Holds w r us reading → Named val w names
+        → Named (withInputs is reading control val) w (nameInputs is k r names))
+        → Named (cond t (withInputs is reading (control / 2) (put v (odd control) val)) (withInputs is (reading / 2) control (put v (odd reading) val))) w
+        (cond t (nameInputs is (suc k) r (name v k names)) (nameInputs is k (suc r) (name v r names)))
+    by true hk hr more = more (suc k) r (control / 2) reading _ _ (holds-rest w k cs control hk) hr
+        (name-put val w names v k (odd control) named (holds-first w k cs control hk))
+    by false hk hr more = more k (suc r) control (reading / 2) _ _ hk (holds-rest w r us reading hr)
+        (name-put val w names v r (odd reading) named (holds-first w r us reading hr))
 
-latches-named : (w : Valuation) (ls : List Latch) (v state : ℕ) (val : Valuation) (names : Names) → Holds w v (length ls) state → Named val w names → Named (withLatches ls state val) w (nameLatches ls v names)
+latches-named : (w : Valuation) (ls : List Latch) (v state : ℕ) (val : Valuation) (names : Names) → Holds w v (length ls) state → Named val w names
+    → Named (withLatches ls state val) w (nameLatches ls v names)
 unfolding withLatches nameLatches
 latches-named w [] v state val names h named = named
-latches-named w (l ∷ ls) v state val names h named = latches-named w ls (suc v) (state / 2) _ _ (holds-rest w v (length ls) state h) (name-put val w names (variable (l .own)) v (odd state) named (holds-first w v (length ls) state h))
+latches-named w (l ∷ ls) v state val names h named = latches-named w ls (suc v) (state / 2) _ _ (holds-rest w v (length ls) state h)
+    (name-put val w names (variable (l .own)) v (odd state) named (holds-first w v (length ls) state h))
 
 -- a gate: both put the same truth, and the net where no name leads yet
 gate-put : (val w : Valuation) (names : Names) (v n : ℕ) (b : Bool) → Named val w names → Below n names → Named (put v b val) (put n b w) (name v n names)
 unfolding put name
-gate-put val w names v n b named below = record { same = λ u. by u (eqb u v); none = rw (ne-eqb 0 n (λ (e : 0 ≡ n). absurd (omega (arith, below 0)))) (named .none) }
+gate-put val w names v n b named below = record {
+  same = λ u. by u (eqb u v);
+  none = rw (ne-eqb 0 n (λ (e : 0 ≡ n). absurd (omega (arith, below 0))))
+      (named .none);
+}
   where
     away : (u : ℕ) → eqb (names u) n ≡ false
     away u = ne-eqb (names u) n (λ (e : names u ≡ n). absurd (omega (arith, below u)))
@@ -122,16 +150,19 @@ gate-put val w names v n b named below = record { same = λ u. by u (eqb u v); n
     by u true = rw (eq-eqb n n refl)
     by u false = rw (away u) (named .same u)
 
-gates-named : (gs : List Gate) (n : ℕ) (val w : Valuation) (names : Names) → Named val w names → Below n names → Named (withGates gs val) (withOperands (operandsOf gs n names) n w) (nameGates gs n names)
+gates-named : (gs : List Gate) (n : ℕ) (val w : Valuation) (names : Names) → Named val w names → Below n names
+    → Named (withGates gs val) (withOperands (operandsOf gs n names) n w) (nameGates gs n names)
 unfolding withGates withOperands operandsOf nameGates
 gates-named [] n val w names named below = named
 gates-named (g ∷ gs) n val w names named below =
     gates-named gs (suc n) _ _ _ one (name-below (suc n) (variable (g .own)) n names (below-more n (suc n) names below (omega arith)) (omega arith))
   where
-    both : (literalValue w (netLiteral names (g .left)) && literalValue w (netLiteral names (g .right))) ≡ (literalValue val (g .left) && literalValue val (g .right))
+    both : (literalValue w (netLiteral names (g .left)) && literalValue w (netLiteral names (g .right))) ≡ (literalValue val (g .left) && literalValue val
+        (g .right))
     both = ap₂ {C = Bool} (λ a b. a && b) (literal-same val w names (g .left) named) (literal-same val w names (g .right) named)
 
-    one : Named (put (variable (g .own)) (literalValue val (g .left) && literalValue val (g .right)) val) (put n (literalValue w (netLiteral names (g .left)) && literalValue w (netLiteral names (g .right))) w) (name (variable (g .own)) n names)
+    one : Named (put (variable (g .own)) (literalValue val (g .left) && literalValue val (g .right)) val)
+        (put n (literalValue w (netLiteral names (g .left)) && literalValue w (netLiteral names (g .right))) w) (name (variable (g .own)) n names)
     one = rw both (gate-put val w names (variable (g .own)) n (literalValue val (g .left) && literalValue val (g .right)) named below)
 
 module _ (c : Circuit) where
@@ -225,15 +256,19 @@ module _ (c : Circuit) where
 
     error-same : netError (netOf c) (moveOf (latchCount c) (uncontrollableCount c) (controllableCount c) s r k) ≡ errorOf c s r k
     unfolding netError errorOf move L U C
-    error-same = ap (literalValue (netValues (netOf c) move)) net-output ∙ literal-same (valuation c s r k) (netValues (netOf c) move) (allNames c) (c .output) named
+    error-same = ap (literalValue (netValues (netOf c) move)) net-output ∙ literal-same (valuation c s r k) (netValues (netOf c) move) (allNames c)
+        (c .output) named
 
-    next-bits : (ls : List Latch) → map (λ (l : ℕ). oneIf (literalValue (netValues (netOf c) move) l)) (map (λ (l : Latch). netLiteral (allNames c) (l .next)) ls) ≡ map (λ (l : Latch). oneIf (literalValue (valuation c s r k) (l .next))) ls
+    next-bits : (ls : List Latch) → map (λ (l : ℕ). oneIf (literalValue (netValues (netOf c) move) l))
+        (map (λ (l : Latch). netLiteral (allNames c) (l .next)) ls) ≡ map (λ (l : Latch). oneIf (literalValue (valuation c s r k) (l .next))) ls
     next-bits [] = refl
-    next-bits (l ∷ ls) = ap₂ {C = List ℕ} (λ x xs. x ∷ xs) (ap oneIf (literal-same (valuation c s r k) (netValues (netOf c) move) (allNames c) (l .next) named)) (next-bits ls)
+    next-bits (l ∷ ls) = ap₂ {C = List ℕ} (λ x xs. x ∷ xs)
+        (ap oneIf (literal-same (valuation c s r k) (netValues (netOf c) move) (allNames c) (l .next) named)) (next-bits ls)
 
     next-same : netNext (netOf c) (moveOf (latchCount c) (uncontrollableCount c) (controllableCount c) s r k) ≡ nextOf c s r k
     unfolding netNext nextOf move L U C
-    next-same = ap (λ (ls : List ℕ). sum 2 (map (λ (l : ℕ). oneIf (literalValue (netValues (netOf c) move) l)) ls)) net-nexts ∙ ap (sum 2) (next-bits (c .latches))
+    next-same = ap (λ (ls : List ℕ). sum 2 (map (λ (l : ℕ). oneIf (literalValue (netValues (netOf c) move) l)) ls)) net-nexts
+        ∙ ap (sum 2) (next-bits (c .latches))
 
     -- the net's step is the circuit's step
     pub net-step-is : netStep (netOf c) (moveOf (latchCount c) (uncontrollableCount c) (controllableCount c) s r k) ≡ step c s r k

@@ -16,7 +16,10 @@ use Rattle.net.proofs.laws.Made.{Counts, i-few, l-few, g-few, controls-
 use Rattle.net.proofs.make.Statement.{statement}
 use Rattle.net.proofs.make.Tie as tie
 
-counts : (c : tie.After-controls-of) → Counts (c .before .before .before .before .before .before .before .before .before .before .before .args .t1) (c .before .before .before .before .before .before .before .before .fewer .result) (c .before .before .before .before .before .before .before .fewer2 .result) (c .before .before .before .before .before .before .fewer3 .result) (c .controls-of .result)
+counts : (c : tie.After-controls-of) → Counts (c .before .before .before .before .before .before .before .before .before .before .before .args .t1)
+    (c .before .before .before .before .before .before .before .before .fewer .result)
+    (c .before .before .before .before .before .before .before .fewer2 .result) (c .before .before .before .before .before .before .fewer3 .result)
+    (c .controls-of .result)
 counts c =
     record {
       inputs-read = c .before .before .before .before .before .before .before .before .fewer .ensures;
@@ -34,16 +37,70 @@ none c = names-none (base .variable + 1) (c .no-names .result) (c .no-names .ens
 zeros-long : (c : tie.After-no-numbers) → length (c .no-numbers .result) ≡ most
 zeros-long c = ap length (c .no-numbers .ensures) ∙ length-table (λ i. 0) most
 
-first : (c : tie.After-name-latches) → Below (1 + c .before .before .before .before .before .before .before .before .before .before .before .before .before .before .before .before .before .before .before .before .before .before .before .fewer .result + c .before .before .before .before .before .before .before .before .before .before .before .before .before .before .before .before .before .before .before .before .before .before .fewer2 .result) (namesIn (c .name-latches .last .0))
-first c = first-within (c .before .before .before .before .before .before .before .before .before .before .before .before .before .before .before .before .before .before .before .before .before .before .before .before .before .before .args .t1) (c .before .before .before .before .before .before .before .before .before .before .before .before .before .before .before .before .before .before .before .before .before .before .before .fewer .result) (c .before .before .before .before .before .before .before .before .before .before .before .before .before .before .before .before .before .before .before .before .before .before .fewer2 .result) (c .before .before .before .before .before .before .before .before .before .before .before .before .before .before .before .before .before .before .before .before .before .fewer3 .result) (c .before .before .before .before .before .before .before .before .before .before .before .before .before .before .before .controls-of .result) (counts (c .before .before .before .before .before .before .before .before .before .before .before .before .before .before .before)) (namesIn (c .before .before .before .before .before .before .before .before .before .before .before .before .before .before .before .before .before .before .before .before .before .before .before .before .no-names .result)) (namesIn (c .before .before .before .before .before .before .before .before .name-inputs .last .0)) (namesIn (c .name-latches .last .0)) (none (c .before .before .before .before .before .before .before .before .before .before .before .before .before .before .before .before .before .before .before .before .before .before .before .before)) (c .before .before .before .before .before .before .before .before .name-inputs .ensures) (c .name-latches .ensures)
+first : (c : tie.After-name-latches)
+    → Below
+    (1 + c .before .before .before .before .before .before .before .before .before .before .before .before .before .before .before .before .before .before
+    .before .before .before .before .before .fewer .result + c .before .before .before .before .before .before .before .before .before .before .before
+    .before .before .before .before .before .before .before .before .before .before .before .fewer2 .result) (namesIn (c .name-latches .last .0))
+first c = first-within
+    (c .before .before .before .before .before .before .before .before .before .before .before .before .before .before .before .before .before .before
+    .before .before .before .before .before .before .before .before .args .t1)
+    (c .before .before .before .before .before .before .before .before .before .before .before .before .before .before .before .before .before .before
+    .before .before .before .before .before .fewer .result)
+    (c .before .before .before .before .before .before .before .before .before .before .before .before .before .before .before .before .before .before
+    .before .before .before .before .fewer2 .result)
+    (c .before .before .before .before .before .before .before .before .before .before .before .before .before .before .before .before .before .before
+    .before .before .before .fewer3 .result)
+    (c .before .before .before .before .before .before .before .before .before .before .before .before .before .before .before .controls-of .result)
+    (counts (c .before .before .before .before .before .before .before .before .before .before .before .before .before .before .before))
+    (namesIn
+    (c .before .before .before .before .before .before .before .before .before .before .before .before .before .before .before .before .before .before
+    .before .before .before .before .before .before .no-names .result))
+    (namesIn (c .before .before .before .before .before .before .before .before .name-inputs .last .0)) (namesIn (c .name-latches .last .0))
+    (none
+    (c .before .before .before .before .before .before .before .before .before .before .before .before .before .before .before .before .before .before
+    .before .before .before .before .before .before)) (c .before .before .before .before .before .before .before .before .name-inputs .ensures)
+    (c .name-latches .ensures)
 
 all : (c : tie.After-put-gates) → Below variables (namesIn (c .put-gates .last .1 .0))
-all c = all-within (c .before .before .before .before .before .before .before .before .before .before .before .before .before .before .before .before .before .before .before .before .before .before .before .before .before .before .before .before .before .before .before .before .before .before .before .before .before .args .t1) (c .before .before .before .before .before .before .before .before .before .before .before .before .before .before .before .before .before .before .before .before .before .before .before .before .before .before .before .before .before .before .before .before .before .before .fewer .result) (c .before .before .before .before .before .before .before .before .before .before .before .before .before .before .before .before .before .before .before .before .before .before .before .before .before .before .before .before .before .before .before .before .before .fewer2 .result) (c .before .before .before .before .before .before .before .before .before .before .before .before .before .before .before .before .before .before .before .before .before .before .before .before .before .before .before .before .before .before .before .before .fewer3 .result) (c .before .before .before .before .before .before .before .before .before .before .before .before .before .before .before .before .before .before .before .before .before .before .before .before .before .before .controls-of .result) (counts (c .before .before .before .before .before .before .before .before .before .before .before .before .before .before .before .before .before .before .before .before .before .before .before .before .before .before)) (namesIn (c .before .before .before .before .before .before .before .before .before .before .before .before .before .before .before .before .before .before .before .before .before .before .before .before .before .before .before .before .before .before .before .before .before .before .before .no-names .result)) (namesIn (c .before .before .before .before .before .before .before .before .before .before .before .before .before .before .before .before .before .before .before .name-inputs .last .0)) (namesIn (c .before .before .before .before .before .before .before .before .before .before .before .name-latches .last .0)) (none (c .before .before .before .before .before .before .before .before .before .before .before .before .before .before .before .before .before .before .before .before .before .before .before .before .before .before .before .before .before .before .before .before .before .before .before)) (c .before .before .before .before .before .before .before .before .before .before .before .before .before .before .before .before .before .before .before .name-inputs .ensures) (c .before .before .before .before .before .before .before .before .before .before .before .name-latches .ensures) (namesIn (c .put-gates .last .1 .0)) (c .put-gates .ensures .1)
+all c = all-within
+    (c .before .before .before .before .before .before .before .before .before .before .before .before .before .before .before .before .before .before
+    .before .before .before .before .before .before .before .before .before .before .before .before .before .before .before .before .before .before .before
+    .args .t1)
+    (c .before .before .before .before .before .before .before .before .before .before .before .before .before .before .before .before .before .before
+    .before .before .before .before .before .before .before .before .before .before .before .before .before .before .before .before .fewer .result)
+    (c .before .before .before .before .before .before .before .before .before .before .before .before .before .before .before .before .before .before
+    .before .before .before .before .before .before .before .before .before .before .before .before .before .before .before .fewer2 .result)
+    (c .before .before .before .before .before .before .before .before .before .before .before .before .before .before .before .before .before .before
+    .before .before .before .before .before .before .before .before .before .before .before .before .before .before .fewer3 .result)
+    (c .before .before .before .before .before .before .before .before .before .before .before .before .before .before .before .before .before .before
+    .before .before .before .before .before .before .before .before .controls-of .result)
+    (counts
+    (c .before .before .before .before .before .before .before .before .before .before .before .before .before .before .before .before .before .before
+    .before .before .before .before .before .before .before .before))
+    (namesIn
+    (c .before .before .before .before .before .before .before .before .before .before .before .before .before .before .before .before .before .before
+    .before .before .before .before .before .before .before .before .before .before .before .before .before .before .before .before .before .no-names
+    .result))
+    (namesIn
+    (c .before .before .before .before .before .before .before .before .before .before .before .before .before .before .before .before .before .before
+    .before .name-inputs .last .0))
+    (namesIn (c .before .before .before .before .before .before .before .before .before .before .before .name-latches .last .0))
+    (none
+    (c .before .before .before .before .before .before .before .before .before .before .before .before .before .before .before .before .before .before
+    .before .before .before .before .before .before .before .before .before .before .before .before .before .before .before .before .before))
+    (c .before .before .before .before .before .before .before .before .before .before .before .before .before .before .before .before .before .before
+    .before .name-inputs .ensures) (c .before .before .before .before .before .before .before .before .before .before .before .name-latches .ensures)
+    (namesIn (c .put-gates .last .1 .0)) (c .put-gates .ensures .1)
 
-gates-kept : (c : tie.After-put-gates) → length (c .put-gates .last .0) ≡ length (c .before .before .before .before .before .before .before .before .before .before .before .before .before .before .before .before .before .before .before .before .before .before .before .before .before .before .before .before .before .before .before .before .before .before .before .before .no-numbers .result)
+gates-kept : (c : tie.After-put-gates) → length (c .put-gates .last .0) ≡ length
+    (c .before .before .before .before .before .before .before .before .before .before .before .before .before .before .before .before .before .before
+    .before .before .before .before .before .before .before .before .before .before .before .before .before .before .before .before .before .before
+    .no-numbers .result)
 gates-kept c = search needs
 
-nexts-kept : (c : tie.After-put-nexts) → length (c .put-nexts .last .0) ≡ length (c .before .before .before .before .before .before .before .before .before .before .put-gates .last .0)
+nexts-kept : (c : tie.After-put-nexts) → length (c .put-nexts .last .0) ≡ length
+    (c .before .before .before .before .before .before .before .before .before .before .put-gates .last .0)
 nexts-kept c = search needs
 
 no-numbers-requires : tie.Need-no-numbers-requires
@@ -68,7 +125,22 @@ slice-aggregate-name-inputs : tie.Need-slice-aggregate-name-inputs
 slice-aggregate-name-inputs c = search needs
 
 name-inputs-requires : tie.Need-name-inputs-requires
-name-inputs-requires c κs = (search needs, (search needs, (search needs, controls-few (c .before .before .before .before .before .before .before .before .before .before .before .before .before .before .before .before .before .args .t1) (c .before .before .before .before .before .before .before .before .before .before .before .before .before .before .fewer .result) (c .before .before .before .before .before .before .before .before .before .before .before .before .before .fewer2 .result) (c .before .before .before .before .before .before .before .before .before .before .before .before .fewer3 .result) (c .before .before .before .before .before .before .controls-of .result) (counts (c .before .before .before .before .before .before)))))
+name-inputs-requires c κs
+    = (
+      search needs,
+      (
+        search needs,
+        (
+          search needs,
+          controls-few
+              (c .before .before .before .before .before .before .before .before .before .before .before .before .before .before .before .before .before .args .t1)
+              (c .before .before .before .before .before .before .before .before .before .before .before .before .before .before .fewer .result)
+              (c .before .before .before .before .before .before .before .before .before .before .before .before .before .fewer2 .result)
+              (c .before .before .before .before .before .before .before .before .before .before .before .before .fewer3 .result)
+              (c .before .before .before .before .before .before .controls-of .result) (counts (c .before .before .before .before .before .before)),
+        ),
+      ),
+    )
 
 slice-aggregate-name-latches : tie.Need-slice-aggregate-name-latches
 slice-aggregate-name-latches c = search needs
@@ -83,7 +155,61 @@ slice-aggregate-put-gates-2 : tie.Need-slice-aggregate-put-gates-2
 slice-aggregate-put-gates-2 c = search needs
 
 put-gates-requires : tie.Need-put-gates-requires
-put-gates-requires c κs = (search needs, (omega (arith, counts (c .before .before .before .before .before .before .before .before .before .before .before .before .before .before .before .before .before .before .before .before .before .before .before .before .before) .gates-read, counts (c .before .before .before .before .before .before .before .before .before .before .before .before .before .before .before .before .before .before .before .before .before .before .before .before .before) .gate-long), (omega (arith, counts (c .before .before .before .before .before .before .before .before .before .before .before .before .before .before .before .before .before .before .before .before .before .before .before .before .before) .gates-read), (omega (arith, counts (c .before .before .before .before .before .before .before .before .before .before .before .before .before .before .before .before .before .before .before .before .before .before .before .before .before) .latches-read), (omega (arith, counts (c .before .before .before .before .before .before .before .before .before .before .before .before .before .before .before .before .before .before .before .before .before .before .before .before .before) .inputs-read), (omega (arith, counts (c .before .before .before .before .before .before .before .before .before .before .before .before .before .before .before .before .before .before .before .before .before .before .before .before .before) .latches-read, counts (c .before .before .before .before .before .before .before .before .before .before .before .before .before .before .before .before .before .before .before .before .before .before .before .before .before) .gates-read, zeros-long (c .before .before .before .before .before .before .before .before .before .before .before .before .before .before .before .before .before .before .before .before .before .before .before .before .before .before .before .before .before .before .before .before .before .before .before)), first (c .before .before .before .before .before .before .before .before .before .before)))))))
+put-gates-requires c κs
+    = (
+      search needs,
+      (
+        omega (
+          arith,
+          counts
+              (c .before .before .before .before .before .before .before .before .before .before .before .before .before .before .before .before .before .before
+              .before .before .before .before .before .before .before) .gates-read,
+          counts
+              (c .before .before .before .before .before .before .before .before .before .before .before .before .before .before .before .before .before .before
+              .before .before .before .before .before .before .before) .gate-long,
+        ),
+        (
+          omega (
+            arith,
+            counts
+                (c .before .before .before .before .before .before .before .before .before .before .before .before .before .before .before .before .before .before
+                .before .before .before .before .before .before .before) .gates-read,
+          ),
+          (
+            omega (
+              arith,
+              counts
+                  (c .before .before .before .before .before .before .before .before .before .before .before .before .before .before .before .before .before .before
+                  .before .before .before .before .before .before .before) .latches-read,
+            ),
+            (
+              omega (
+                arith,
+                counts
+                    (c .before .before .before .before .before .before .before .before .before .before .before .before .before .before .before .before .before .before
+                    .before .before .before .before .before .before .before) .inputs-read,
+              ),
+              (
+                omega (
+                  arith,
+                  counts
+                      (c .before .before .before .before .before .before .before .before .before .before .before .before .before .before .before .before .before .before
+                      .before .before .before .before .before .before .before) .latches-read,
+                  counts
+                      (c .before .before .before .before .before .before .before .before .before .before .before .before .before .before .before .before .before .before
+                      .before .before .before .before .before .before .before) .gates-read,
+                  zeros-long
+                      (c .before .before .before .before .before .before .before .before .before .before .before .before .before .before .before .before .before .before
+                      .before .before .before .before .before .before .before .before .before .before .before .before .before .before .before .before .before),
+                ),
+                first
+                    (c .before .before .before .before .before .before .before .before .before .before),
+              ),
+            ),
+          ),
+        ),
+      ),
+    )
 
 slice-aggregate-put-nexts : tie.Need-slice-aggregate-put-nexts
 slice-aggregate-put-nexts c = search needs
@@ -92,7 +218,40 @@ slice-aggregate-put-nexts-2 : tie.Need-slice-aggregate-put-nexts-2
 slice-aggregate-put-nexts-2 c = search needs
 
 put-nexts-requires : tie.Need-put-nexts-requires
-put-nexts-requires c κs = (omega (arith, counts (c .before .before .before .before .before .before .before .before .before .before .before .before .before .before .before .before .before .before .before .before .before .before .before .before .before .before .before .before .before .before .before .before .before .before .before) .latches-read, counts (c .before .before .before .before .before .before .before .before .before .before .before .before .before .before .before .before .before .before .before .before .before .before .before .before .before .before .before .before .before .before .before .before .before .before .before) .latch-long), (omega (arith, counts (c .before .before .before .before .before .before .before .before .before .before .before .before .before .before .before .before .before .before .before .before .before .before .before .before .before .before .before .before .before .before .before .before .before .before .before) .latches-read), (omega (arith, counts (c .before .before .before .before .before .before .before .before .before .before .before .before .before .before .before .before .before .before .before .before .before .before .before .before .before .before .before .before .before .before .before .before .before .before .before) .latches-read, gates-kept (c .before .before .before .before .before .before .before .before .before), zeros-long (c .before .before .before .before .before .before .before .before .before .before .before .before .before .before .before .before .before .before .before .before .before .before .before .before .before .before .before .before .before .before .before .before .before .before .before .before .before .before .before .before .before .before .before .before .before)), all (c .before .before .before .before .before .before .before .before .before))))
+put-nexts-requires c κs
+    = (
+      omega (
+        arith,
+        counts
+            (c .before .before .before .before .before .before .before .before .before .before .before .before .before .before .before .before .before .before
+            .before .before .before .before .before .before .before .before .before .before .before .before .before .before .before .before .before) .latches-read,
+        counts
+            (c .before .before .before .before .before .before .before .before .before .before .before .before .before .before .before .before .before .before
+            .before .before .before .before .before .before .before .before .before .before .before .before .before .before .before .before .before) .latch-long,
+      ),
+      (
+        omega (
+          arith,
+          counts
+              (c .before .before .before .before .before .before .before .before .before .before .before .before .before .before .before .before .before .before
+              .before .before .before .before .before .before .before .before .before .before .before .before .before .before .before .before .before) .latches-read,
+        ),
+        (
+          omega (
+            arith,
+            counts
+                (c .before .before .before .before .before .before .before .before .before .before .before .before .before .before .before .before .before .before
+                .before .before .before .before .before .before .before .before .before .before .before .before .before .before .before .before .before) .latches-read,
+            gates-kept (c .before .before .before .before .before .before .before .before .before),
+            zeros-long
+                (c .before .before .before .before .before .before .before .before .before .before .before .before .before .before .before .before .before .before
+                .before .before .before .before .before .before .before .before .before .before .before .before .before .before .before .before .before .before .before
+                .before .before .before .before .before .before .before .before),
+          ),
+          all (c .before .before .before .before .before .before .before .before .before),
+        ),
+      ),
+    )
 
 slice-aggregate-net-literal : tie.Need-slice-aggregate-net-literal
 slice-aggregate-net-literal c = search needs
@@ -107,20 +266,153 @@ slice-aggregate-put-head : tie.Need-slice-aggregate-put-head
 slice-aggregate-put-head c = search needs
 
 put-head-requires : tie.Need-put-head-requires
-put-head-requires c κs = (controls-few (c .before .before .before .before .before .before .before .before .before .before .before .before .before .before .before .before .before .before .before .before .before .before .before .before .before .before .before .before .before .before .before .before .before .before .before .before .before .before .before .before .before .before .before .before .before .before .before .before .before .before .before .before .args .t1) (c .before .before .before .before .before .before .before .before .before .before .before .before .before .before .before .before .before .before .before .before .before .before .before .before .before .before .before .before .before .before .before .before .before .before .before .before .before .before .before .before .before .before .before .before .before .before .before .before .before .fewer .result) (c .before .before .before .before .before .before .before .before .before .before .before .before .before .before .before .before .before .before .before .before .before .before .before .before .before .before .before .before .before .before .before .before .before .before .before .before .before .before .before .before .before .before .before .before .before .before .before .before .fewer2 .result) (c .before .before .before .before .before .before .before .before .before .before .before .before .before .before .before .before .before .before .before .before .before .before .before .before .before .before .before .before .before .before .before .before .before .before .before .before .before .before .before .before .before .before .before .before .before .before .before .fewer3 .result) (c .before .before .before .before .before .before .before .before .before .before .before .before .before .before .before .before .before .before .before .before .before .before .before .before .before .before .before .before .before .before .before .before .before .before .before .before .before .before .before .before .before .controls-of .result) (counts (c .before .before .before .before .before .before .before .before .before .before .before .before .before .before .before .before .before .before .before .before .before .before .before .before .before .before .before .before .before .before .before .before .before .before .before .before .before .before .before .before .before)), (omega (arith, counts (c .before .before .before .before .before .before .before .before .before .before .before .before .before .before .before .before .before .before .before .before .before .before .before .before .before .before .before .before .before .before .before .before .before .before .before .before .before .before .before .before .before) .inputs-read), (omega (arith, counts (c .before .before .before .before .before .before .before .before .before .before .before .before .before .before .before .before .before .before .before .before .before .before .before .before .before .before .before .before .before .before .before .before .before .before .before .before .before .before .before .before .before) .latches-read), omega (arith, nexts-kept (c .before .before .before .before .before), gates-kept (c .before .before .before .before .before .before .before .before .before .before .before .before .before .before .before), zeros-long (c .before .before .before .before .before .before .before .before .before .before .before .before .before .before .before .before .before .before .before .before .before .before .before .before .before .before .before .before .before .before .before .before .before .before .before .before .before .before .before .before .before .before .before .before .before .before .before .before .before .before .before)))))
+put-head-requires c κs
+    = (
+      controls-few
+          (c .before .before .before .before .before .before .before .before .before .before .before .before .before .before .before .before .before .before
+          .before .before .before .before .before .before .before .before .before .before .before .before .before .before .before .before .before .before .before
+          .before .before .before .before .before .before .before .before .before .before .before .before .before .before .before .args .t1)
+          (c .before .before .before .before .before .before .before .before .before .before .before .before .before .before .before .before .before .before
+          .before .before .before .before .before .before .before .before .before .before .before .before .before .before .before .before .before .before .before
+          .before .before .before .before .before .before .before .before .before .before .before .before .fewer .result)
+          (c .before .before .before .before .before .before .before .before .before .before .before .before .before .before .before .before .before .before
+          .before .before .before .before .before .before .before .before .before .before .before .before .before .before .before .before .before .before .before
+          .before .before .before .before .before .before .before .before .before .before .before .fewer2 .result)
+          (c .before .before .before .before .before .before .before .before .before .before .before .before .before .before .before .before .before .before
+          .before .before .before .before .before .before .before .before .before .before .before .before .before .before .before .before .before .before .before
+          .before .before .before .before .before .before .before .before .before .before .fewer3 .result)
+          (c .before .before .before .before .before .before .before .before .before .before .before .before .before .before .before .before .before .before
+          .before .before .before .before .before .before .before .before .before .before .before .before .before .before .before .before .before .before .before
+          .before .before .before .before .controls-of .result)
+          (counts
+          (c .before .before .before .before .before .before .before .before .before .before .before .before .before .before .before .before .before .before
+          .before .before .before .before .before .before .before .before .before .before .before .before .before .before .before .before .before .before .before
+          .before .before .before .before)),
+      (
+        omega (
+          arith,
+          counts
+              (c .before .before .before .before .before .before .before .before .before .before .before .before .before .before .before .before .before .before
+              .before .before .before .before .before .before .before .before .before .before .before .before .before .before .before .before .before .before .before
+              .before .before .before .before) .inputs-read,
+        ),
+        (
+          omega (
+            arith,
+            counts
+                (c .before .before .before .before .before .before .before .before .before .before .before .before .before .before .before .before .before .before
+                .before .before .before .before .before .before .before .before .before .before .before .before .before .before .before .before .before .before .before
+                .before .before .before .before) .latches-read,
+          ),
+          omega (
+            arith,
+            nexts-kept (c .before .before .before .before .before),
+            gates-kept
+                (c .before .before .before .before .before .before .before .before .before .before .before .before .before .before .before),
+            zeros-long
+                (c .before .before .before .before .before .before .before .before .before .before .before .before .before .before .before .before .before .before
+                .before .before .before .before .before .before .before .before .before .before .before .before .before .before .before .before .before .before .before
+                .before .before .before .before .before .before .before .before .before .before .before .before .before .before),
+          ),
+        ),
+      ),
+    )
 
 add-t12 : tie.Need-add-t12
-add-t12 c = omega (arith, counts (c .before .before .before .before .before .before .before .before .before .before .before .before .before .before .before .before .before .before .before .before .before .before .before .before .before .before .before .before .before .before .before .before .before .before .before .before .before .before .before .before .before .before .before) .latches-read)
+add-t12 c = omega (
+  arith,
+  counts
+      (c .before .before .before .before .before .before .before .before .before .before .before .before .before .before .before .before .before .before
+      .before .before .before .before .before .before .before .before .before .before .before .before .before .before .before .before .before .before .before
+      .before .before .before .before .before .before) .latches-read,
+)
 
 mul-t54 : tie.Need-mul-t54
-mul-t54 c = omega (arith, counts (c .before .before .before .before .before .before .before .before .before .before .before .before .before .before .before .before .before .before .before .before .before .before .before .before .before .before .before .before .before .before .before .before .before .before .before .before .before .before .before .before .before .before .before) .gates-read)
+mul-t54 c = omega (
+  arith,
+  counts
+      (c .before .before .before .before .before .before .before .before .before .before .before .before .before .before .before .before .before .before
+      .before .before .before .before .before .before .before .before .before .before .before .before .before .before .before .before .before .before .before
+      .before .before .before .before .before .before) .gates-read,
+)
 
 add-t55 : tie.Need-add-t55
-add-t55 c = omega (arith, counts (c .before .before .before .before .before .before .before .before .before .before .before .before .before .before .before .before .before .before .before .before .before .before .before .before .before .before .before .before .before .before .before .before .before .before .before .before .before .before .before .before .before .before .before) .latches-read, counts (c .before .before .before .before .before .before .before .before .before .before .before .before .before .before .before .before .before .before .before .before .before .before .before .before .before .before .before .before .before .before .before .before .before .before .before .before .before .before .before .before .before .before .before) .gates-read)
+add-t55 c = omega (
+  arith,
+  counts
+      (c .before .before .before .before .before .before .before .before .before .before .before .before .before .before .before .before .before .before
+      .before .before .before .before .before .before .before .before .before .before .before .before .before .before .before .before .before .before .before
+      .before .before .before .before .before .before) .latches-read,
+  counts
+      (c .before .before .before .before .before .before .before .before .before .before .before .before .before .before .before .before .before .before
+      .before .before .before .before .before .before .before .before .before .before .before .before .before .before .before .before .before .before .before
+      .before .before .before .before .before .before) .gates-read,
+)
 
 returns : tie.Need-returns
-returns c = let l = c .before .before .before .before .before .before .before .before .before .before .before .before .before .before .before .before .before .before .before .before .before .before .before .before .before .before .before .before in
-    value-made (c .before .before .before .before .before .before .before .before .before .before .before .before .before .before .before .before .before .before .before .before .before .before .before .before .before .before .before .before .before .before .before .before .before .before .before .before .before .before .before .before .before .before .before .before .before .before .before .before .before .before .before .before .before .before .args .t1) (c .before .before .before .before .before .before .before .before .before .before .before .before .before .before .before .before .before .before .before .before .before .before .before .before .before .before .before .before .before .before .before .before .before .before .before .before .before .before .before .before .before .before .before .before .before .before .before .before .before .before .before .fewer .result) (c .before .before .before .before .before .before .before .before .before .before .before .before .before .before .before .before .before .before .before .before .before .before .before .before .before .before .before .before .before .before .before .before .before .before .before .before .before .before .before .before .before .before .before .before .before .before .before .before .before .before .fewer2 .result) (c .before .before .before .before .before .before .before .before .before .before .before .before .before .before .before .before .before .before .before .before .before .before .before .before .before .before .before .before .before .before .before .before .before .before .before .before .before .before .before .before .before .before .before .before .before .before .before .before .before .fewer3 .result) (c .before .before .before .before .before .before .before .before .before .before .before .before .before .before .before .before .before .before .before .before .before .before .before .before .before .before .before .before .before .before .before .before .before .before .before .before .before .before .before .before .before .before .before .controls-of .result) (counts (c .before .before .before .before .before .before .before .before .before .before .before .before .before .before .before .before .before .before .before .before .before .before .before .before .before .before .before .before .before .before .before .before .before .before .before .before .before .before .before .before .before .before .before)) (namesIn (c .before .before .before .before .before .before .before .before .before .before .before .before .before .before .before .before .before .before .before .before .before .before .before .before .before .before .before .before .before .before .before .before .before .before .before .before .before .before .before .before .before .before .before .before .before .before .before .before .before .before .before .before .no-names .result)) (namesIn (c .before .before .before .before .before .before .before .before .before .before .before .before .before .before .before .before .before .before .before .before .before .before .before .before .before .before .before .before .before .before .before .before .before .before .before .before .name-inputs .last .0)) (namesIn (l .name-latches .last .0)) (none (c .before .before .before .before .before .before .before .before .before .before .before .before .before .before .before .before .before .before .before .before .before .before .before .before .before .before .before .before .before .before .before .before .before .before .before .before .before .before .before .before .before .before .before .before .before .before .before .before .before .before .before .before)) (c .before .before .before .before .before .before .before .before .before .before .before .before .before .before .before .before .before .before .before .before .before .before .before .before .before .before .before .before .before .before .before .before .before .before .before .before .name-inputs .ensures) (l .name-latches .ensures) (namesIn (c .before .before .before .before .before .before .before .before .before .before .before .before .before .before .before .before .before .put-gates .last .1 .0)) (c .before .before .before .before .before .before .before .before .before .before .before .before .before .before .before .before .before .put-gates .ensures .1) (c .before .before .before .before .before .before .before .before .before .before .before .before .before .before .before .before .before .before .before .before .before .before .before .before .before .before .before .before .before .before .before .before .before .before .before .before .before .before .before .before .before .before .before .before .before .before .before .before .before .before .before .before .before .no-numbers .result) (c .before .before .before .before .before .before .before .before .before .before .before .before .before .before .before .before .before .put-gates .last .0) (c .before .before .before .before .before .before .before .put-nexts .last .0) (c .before .put-head .last .0) (c .before .before .before .net-literal .result) (c .before .before .before .before .before .before .before .before .before .before .before .before .before .before .before .before .before .before .before .before .before .before .before .before .before .before .before .before .before .before .before .before .before .before .before .before .before .before .before .before .before .before .before .before .before .before .before .before .before .before .before .before .before .no-numbers .ensures) (c .before .before .before .before .before .before .before .before .before .before .before .before .before .before .before .before .before .put-gates .ensures .0) (c .before .before .before .before .before .before .before .put-nexts .ensures) (c .before .before .before .net-literal .ensures ∙ ap (netLiteral (namesIn (c .before .before .before .before .before .before .before .before .before .before .before .before .before .before .before .before .before .put-gates .last .1 .0))) (c .before .before .before .before .literal .ensures)) (c .before .put-head .ensures)
+returns c = let l
+    = c .before .before .before .before .before .before .before .before .before .before .before .before .before .before .before .before .before .before
+    .before .before .before .before .before .before .before .before .before .before in
+    value-made
+    (c .before .before .before .before .before .before .before .before .before .before .before .before .before .before .before .before .before .before
+    .before .before .before .before .before .before .before .before .before .before .before .before .before .before .before .before .before .before
+    .before .before .before .before .before .before .before .before .before .before .before .before .before .before .before .before .before .before
+    .args .t1)
+    (c .before .before .before .before .before .before .before .before .before .before .before .before .before .before .before .before .before .before
+    .before .before .before .before .before .before .before .before .before .before .before .before .before .before .before .before .before .before
+    .before .before .before .before .before .before .before .before .before .before .before .before .before .before .before .fewer .result)
+    (c .before .before .before .before .before .before .before .before .before .before .before .before .before .before .before .before .before .before
+    .before .before .before .before .before .before .before .before .before .before .before .before .before .before .before .before .before .before
+    .before .before .before .before .before .before .before .before .before .before .before .before .before .before .fewer2 .result)
+    (c .before .before .before .before .before .before .before .before .before .before .before .before .before .before .before .before .before .before
+    .before .before .before .before .before .before .before .before .before .before .before .before .before .before .before .before .before .before
+    .before .before .before .before .before .before .before .before .before .before .before .before .before .fewer3 .result)
+    (c .before .before .before .before .before .before .before .before .before .before .before .before .before .before .before .before .before .before
+    .before .before .before .before .before .before .before .before .before .before .before .before .before .before .before .before .before .before
+    .before .before .before .before .before .before .before .controls-of .result)
+    (counts
+    (c .before .before .before .before .before .before .before .before .before .before .before .before .before .before .before .before .before .before
+    .before .before .before .before .before .before .before .before .before .before .before .before .before .before .before .before .before .before
+    .before .before .before .before .before .before .before))
+    (namesIn
+    (c .before .before .before .before .before .before .before .before .before .before .before .before .before .before .before .before .before .before
+    .before .before .before .before .before .before .before .before .before .before .before .before .before .before .before .before .before .before
+    .before .before .before .before .before .before .before .before .before .before .before .before .before .before .before .before .no-names .result))
+    (namesIn
+    (c .before .before .before .before .before .before .before .before .before .before .before .before .before .before .before .before .before .before
+    .before .before .before .before .before .before .before .before .before .before .before .before .before .before .before .before .before .before
+    .name-inputs .last .0)) (namesIn (l .name-latches .last .0))
+    (none
+    (c .before .before .before .before .before .before .before .before .before .before .before .before .before .before .before .before .before .before
+    .before .before .before .before .before .before .before .before .before .before .before .before .before .before .before .before .before .before
+    .before .before .before .before .before .before .before .before .before .before .before .before .before .before .before .before))
+    (c .before .before .before .before .before .before .before .before .before .before .before .before .before .before .before .before .before .before
+    .before .before .before .before .before .before .before .before .before .before .before .before .before .before .before .before .before .before
+    .name-inputs .ensures) (l .name-latches .ensures)
+    (namesIn
+    (c .before .before .before .before .before .before .before .before .before .before .before .before .before .before .before .before .before
+    .put-gates .last .1 .0))
+    (c .before .before .before .before .before .before .before .before .before .before .before .before .before .before .before .before .before
+    .put-gates .ensures .1)
+    (c .before .before .before .before .before .before .before .before .before .before .before .before .before .before .before .before .before .before
+    .before .before .before .before .before .before .before .before .before .before .before .before .before .before .before .before .before .before
+    .before .before .before .before .before .before .before .before .before .before .before .before .before .before .before .before .before .no-numbers
+    .result)
+    (c .before .before .before .before .before .before .before .before .before .before .before .before .before .before .before .before .before
+    .put-gates .last .0) (c .before .before .before .before .before .before .before .put-nexts .last .0) (c .before .put-head .last .0)
+    (c .before .before .before .net-literal .result)
+    (c .before .before .before .before .before .before .before .before .before .before .before .before .before .before .before .before .before .before
+    .before .before .before .before .before .before .before .before .before .before .before .before .before .before .before .before .before .before
+    .before .before .before .before .before .before .before .before .before .before .before .before .before .before .before .before .before .no-numbers
+    .ensures)
+    (c .before .before .before .before .before .before .before .before .before .before .before .before .before .before .before .before .before
+    .put-gates .ensures .0) (c .before .before .before .before .before .before .before .put-nexts .ensures)
+    (c .before .before .before .net-literal .ensures
+    ∙ ap
+    (netLiteral
+    (namesIn
+    (c .before .before .before .before .before .before .before .before .before .before .before .before .before .before .before .before .before
+    .put-gates .last .1 .0))) (c .before .before .before .before .literal .ensures)) (c .before .put-head .ensures)
 
 pub make-spec : {M : Type 1} → statement M
 make-spec =

@@ -20,12 +20,20 @@ Inv-loop words₀ net at first start n k₀ i₀ words k i = Run net at first k 
 abbrev μ-loop : tie.MeasureT-loop
 μ-loop words₀ net at first start n k₀ i₀ words k i = n - i
 
-inside : (c : tie.In-loop Inv-loop μ-loop) → c .before .loop .i < min ((length (c .before .before .before .before .before .before .args .net .now) - min (c .before .before .before .before .before .before .args .at) (length (c .before .before .before .before .before .before .args .net .now))) / 2) (variables - c .before .before .before .before .before .before .args .first)
-inside c = subst (λ (n : ℕ). c .before .loop .i < n) (c .before .before .fewer2 .ensures ∙ ap (λ (s : ℕ). min ((length (c .before .before .before .before .before .before .args .net .now) - s) / 2) (variables - c .before .before .before .before .before .before .args .first)) (c .before .before .before .fewer .ensures)) (c .loop-test .taken)
+inside : (c : tie.In-loop Inv-loop μ-loop)
+    → c .before .loop .i < min
+    ((length (c .before .before .before .before .before .before .args .net .now) - min (c .before .before .before .before .before .before .args .at)
+    (length (c .before .before .before .before .before .before .args .net .now))) / 2)
+    (variables - c .before .before .before .before .before .before .args .first)
+inside c = subst (λ (n : ℕ). c .before .loop .i < n) (c .before .before .fewer2 .ensures
+    ∙ ap (λ (s : ℕ). min ((length (c .before .before .before .before .before .before .args .net .now) - s) / 2)
+    (variables - c .before .before .before .before .before .before .args .first)) (c .before .before .before .fewer .ensures)) (c .loop-test .taken)
 
 -- both operands stand in the net
 room : (c : tie.In-loop Inv-loop μ-loop) → c .before .loop .k + 1 < length (c .before .before .before .before .before .before .args .net .now)
-room c = run-room (c .before .before .before .before .before .before .args .net .now) (c .before .before .before .before .before .before .args .at) (c .before .before .before .before .before .before .args .first) (c .before .loop .k) (c .before .loop .i) (c .before .before .before .before .before .before .args .words .now) (c .before .loop .words) (c .before .loop .inv) (inside c)
+room c = run-room (c .before .before .before .before .before .before .args .net .now) (c .before .before .before .before .before .before .args .at)
+    (c .before .before .before .before .before .before .args .first) (c .before .loop .k) (c .before .loop .i)
+    (c .before .before .before .before .before .before .args .words .now) (c .before .loop .words) (c .before .loop .inv) (inside c)
 
 turn : (c : tie.In-loop Inv-loop μ-loop) → c .before .before .before .before .before .before .args .first + c .before .loop .i < variables
 turn c = omega (arith, inside c)
@@ -43,7 +51,8 @@ fewer-requires-2 : tie.Need-fewer-requires-2 Inv-loop μ-loop
 fewer-requires-2 c κs = search needs
 
 loop-holds : tie.Need-loop-holds Inv-loop μ-loop
-loop-holds c = let a = c .before .before .before .before .args in subst (λ (k : ℕ). Run (a .net .now) (a .at) (a .first) k 0 (a .words .now) (a .words .now)) (sym (c .before .fewer .ensures)) (run-start (a .net .now) (a .at) (a .first) (a .words .now))
+loop-holds c = let a = c .before .before .before .before .args in subst (λ (k : ℕ). Run (a .net .now) (a .at) (a .first) k 0 (a .words .now)
+    (a .words .now)) (sym (c .before .fewer .ensures)) (run-start (a .net .now) (a .at) (a .first) (a .words .now))
 
 mul-place : tie.Need-mul-place Inv-loop μ-loop
 mul-place c = omega (arith, room (c))
@@ -82,7 +91,11 @@ add-put-both : tie.Need-add-put-both Inv-loop μ-loop
 add-put-both c = omega (arith, turn (c .before .before .before .before .before .before .before))
 
 put-both-requires : tie.Need-put-both-requires Inv-loop μ-loop
-put-both-requires c κs = omega (arith, turn (c .before .before .before .before .before .before .before), c .before .before .before .before .before .before .before .before .loop .inv .long)
+put-both-requires c κs = omega (
+  arith,
+  turn (c .before .before .before .before .before .before .before),
+  c .before .before .before .before .before .before .before .before .loop .inv .long,
+)
 
 add-k : tie.Need-add-k Inv-loop μ-loop
 add-k c = omega (arith, room (c .before .before .before .before .before .before .before .before .before .before))
@@ -95,11 +108,15 @@ loop-less c = omega (arith, c .before .before .before .before .before .before .b
 
 loop-again : tie.Need-loop-again Inv-loop μ-loop
 unfolding litsIn
-loop-again c = let a = c .before .before .before .before .before .before .before .before .before .before .before .before .before .before .before .before .args in
+loop-again c = let a
+    = c .before .before .before .before .before .before .before .before .before .before .before .before .before .before .before .before .args in
     let l = c .before .before .before .before .before .before .before .before .before .before .before .loop in
     let x = getD (l .words) (c .before .before .before .before .before .before .before .before .place .result) 0 in
     let y = getD (l .words) (c .before .before .before .before .before .place2 .result) 0 in
-    run-next (a .net .now) (a .at) (a .first) (l .k) (l .i) (a .words .now) (l .words) (c .before .before .put-both .last .0) (bitAnd x y) (l .inv) (inside (c .before .before .before .before .before .before .before .before .before .before)) (search needs) (λ j f. lane-and x y j ∙ λ z. lane (getD (l .words) (c .before .before .before .before .before .before .before .before .place .ensures z) 0) j && lane (getD (l .words) (c .before .before .before .before .before .place2 .ensures z) 0) j) (c .before .before .put-both .ensures)
+    run-next (a .net .now) (a .at) (a .first) (l .k) (l .i) (a .words .now) (l .words) (c .before .before .put-both .last .0) (bitAnd x y) (l .inv)
+    (inside (c .before .before .before .before .before .before .before .before .before .before)) (search needs) (λ j f. lane-and x y j
+    ∙ λ z. lane (getD (l .words) (c .before .before .before .before .before .before .before .before .place .ensures z) 0) j && lane
+    (getD (l .words) (c .before .before .before .before .before .place2 .ensures z) 0) j) (c .before .before .put-both .ensures)
 
 same-length : tie.Need-same-length Inv-loop μ-loop
 same-length c = search needs
@@ -107,7 +124,9 @@ same-length c = search needs
 returns : tie.Need-returns Inv-loop μ-loop
 returns c = let a = c .before .before .before .before .before .before .args in
     let l = c .before .loop in
-    run-end (a .net .now) (a .at) (a .first) (l .k) (l .i) (a .words .now) (l .words) (l .inv) (subst (λ (n : ℕ). n ≤ l .i) (c .before .before .fewer2 .ensures ∙ ap (λ (s : ℕ). min ((length (a .net .now) - s) / 2) (variables - a .first)) (c .before .before .before .fewer .ensures)) (c .loop-test .left))
+    run-end (a .net .now) (a .at) (a .first) (l .k) (l .i) (a .words .now) (l .words) (l .inv)
+    (subst (λ (n : ℕ). n ≤ l .i) (c .before .before .fewer2 .ensures ∙ ap (λ (s : ℕ). min ((length (a .net .now) - s) / 2) (variables - a .first))
+    (c .before .before .before .fewer .ensures)) (c .loop-test .left))
 
 pub put-gates-spec : {M : Type 1} → statement M
 put-gates-spec =

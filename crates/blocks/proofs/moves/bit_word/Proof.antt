@@ -19,7 +19,8 @@ returns : tie.Need-returns
 returns c = let a = c .before .before .args in λ j h. c .lane-bit .ensures j h ∙ move-low (a .block) j (a .i) h (omega arith)
 
 returns-2 : tie.Need-returns-2
-returns-2 c = let a = c .before .before .before .args in λ j h. c .all-if .ensures j h ∙ c .before .has-bit .ensures ∙ move-high (a .block) j (a .i) h (omega arith)
+returns-2 c = let a = c .before .before .before .args in λ j h. c .all-if .ensures j h ∙ c .before .has-bit .ensures ∙ move-high (a .block) j (a .i) h
+    (omega arith)
 
 pub bit-word-spec : {M : Type 1} → statement M
 bit-word-spec =

@@ -31,7 +31,9 @@ loop-less c = search needs
 loop-again : tie.Need-loop-again Inv-loop μ-loop
 loop-again c = let a = c .before .before .before .before .before .before .before .before .args in
     let l = c .before .before .before .before .before .before .loop in
-    moved-next (a .block) (a .n) (l .v) (c .before .before .before .variable-word .result) (a .words .now) (l .words) (c .before .before .put-both .last .0) (l .inv) (c .before .before .before .before .before .loop-test .taken) (search needs) (c .before .before .before .variable-word .ensures) (c .before .before .put-both .ensures)
+    moved-next (a .block) (a .n) (l .v) (c .before .before .before .variable-word .result) (a .words .now) (l .words) (c .before .before .put-both .last .0)
+    (l .inv) (c .before .before .before .before .before .loop-test .taken) (search needs) (c .before .before .before .variable-word .ensures)
+    (c .before .before .put-both .ensures)
 
 same-length : tie.Need-same-length Inv-loop μ-loop
 same-length c = search needs

@@ -17,10 +17,12 @@ bit-word-requires : tie.Need-bit-word-requires
 bit-word-requires c κs = search needs
 
 returns : tie.Need-returns
-returns c = let a = c .before .args in λ bits j h f. lane-none j ∙ sym (with-move-none bits (moveIn (a .block) j)) ∙ ap (withMove bits (moveIn (a .block) j)) (sym (c .if1 .taken))
+returns c = let a = c .before .args in λ bits j h f. lane-none j ∙ sym (with-move-none bits (moveIn (a .block) j))
+    ∙ ap (withMove bits (moveIn (a .block) j)) (sym (c .if1 .taken))
 
 returns-2 : tie.Need-returns-2
-returns-2 c = let a = c .before .before .args in λ bits j h f. c .bit-word .ensures j f ∙ sym (with-move-at bits (moveIn (a .block) j) (a .v) (a .v - 1) (omega arith) (omega arith))
+returns-2 c = let a = c .before .before .args in λ bits j h f. c .bit-word .ensures j f
+    ∙ sym (with-move-at bits (moveIn (a .block) j) (a .v) (a .v - 1) (omega arith) (omega arith))
 
 pub variable-word-spec : {M : Type 1} → statement M
 variable-word-spec = tie.close (tie.spec sub-bit-word bit-word-requires returns returns-2)

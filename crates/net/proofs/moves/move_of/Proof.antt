@@ -8,20 +8,39 @@ use Rattle.net.proofs.laws.Move.{shift-joins, join-below, power-fits, l
 use Rattle.net.proofs.moves.move_of.Statement.{statement}
 use Rattle.net.proofs.moves.move_of.Tie as tie
 
-few : (c : tie.After-lowest3) → c .before .before .before .before .before .before .before .fewer .result + c .before .before .before .before .before .fewer2 .result + c .before .before .fewer3 .result < 64
-few c = omega (arith, c .before .before .before .before .before .before .before .fewer .ensures, c .before .before .before .before .before .fewer2 .ensures, c .before .before .fewer3 .ensures)
+few : (c : tie.After-lowest3)
+    → c .before .before .before .before .before .before .before .fewer .result + c .before .before .before .before .before .fewer2 .result
+    + c .before .before .fewer3 .result < 64
+few c = omega (
+  arith,
+  c .before .before .before .before .before .before .before .fewer .ensures,
+  c .before .before .before .before .before .fewer2 .ensures,
+  c .before .before .fewer3 .ensures,
+)
 
-high : (c : tie.After-lowest3) → c .before .before .before .before .before .before .lowest .result < 2 ^ c .before .before .before .before .before .before .before .fewer .result
-high c = rw (c .before .before .before .before .before .before .lowest .ensures) (lowest-below (c .before .before .before .before .before .before .before .before .args .state) (c .before .before .before .before .before .before .before .fewer .result))
+high : (c : tie.After-lowest3) → c .before .before .before .before .before .before .lowest .result < 2 ^
+    c .before .before .before .before .before .before .before .fewer .result
+high c = rw (c .before .before .before .before .before .before .lowest .ensures)
+    (lowest-below (c .before .before .before .before .before .before .before .before .args .state)
+    (c .before .before .before .before .before .before .before .fewer .result))
 
 middle : (c : tie.After-lowest3) → c .before .before .before .lowest2 .result < 2 ^ c .before .before .before .before .before .fewer2 .result
-middle c = rw (c .before .before .before .lowest2 .ensures) (lowest-below (c .before .before .before .before .before .before .before .before .args .reading .0) (c .before .before .before .before .before .fewer2 .result))
+middle c = rw (c .before .before .before .lowest2 .ensures)
+    (lowest-below (c .before .before .before .before .before .before .before .before .args .reading .0)
+    (c .before .before .before .before .before .fewer2 .result))
 
 low : (c : tie.After-lowest3) → c .lowest3 .result < 2 ^ c .before .before .fewer3 .result
-low c = rw (c .lowest3 .ensures) (lowest-below (c .before .before .before .before .before .before .before .before .args .control .0) (c .before .before .fewer3 .result))
+low c = rw (c .lowest3 .ensures) (lowest-below (c .before .before .before .before .before .before .before .before .args .control .0)
+    (c .before .before .fewer3 .result))
 
-inner-below : (c : tie.After-lowest3) → c .before .before .before .before .before .before .lowest .result * 2 ^ c .before .before .before .before .before .fewer2 .result % 18446744073709551616 + c .before .before .before .lowest2 .result < 2 ^ (c .before .before .before .before .before .before .before .fewer .result + c .before .before .before .before .before .fewer2 .result)
-inner-below c = rw (shift-joins (c .before .before .before .before .before .before .before .fewer .result) (c .before .before .before .before .before .fewer2 .result) (c .before .before .before .before .before .before .lowest .result) (c .before .before .before .lowest2 .result) (high c) (omega (arith, few c))) (join-below (c .before .before .before .before .before .before .before .fewer .result) (c .before .before .before .before .before .fewer2 .result) (c .before .before .before .before .before .before .lowest .result) (c .before .before .before .lowest2 .result) (high c) (middle c))
+inner-below : (c : tie.After-lowest3) → c .before .before .before .before .before .before .lowest .result * 2 ^
+    c .before .before .before .before .before .fewer2 .result % 18446744073709551616 + c .before .before .before .lowest2 .result < 2 ^
+    (c .before .before .before .before .before .before .before .fewer .result + c .before .before .before .before .before .fewer2 .result)
+inner-below c = rw (shift-joins (c .before .before .before .before .before .before .before .fewer .result)
+    (c .before .before .before .before .before .fewer2 .result) (c .before .before .before .before .before .before .lowest .result)
+    (c .before .before .before .lowest2 .result) (high c) (omega (arith, few c)))
+    (join-below (c .before .before .before .before .before .before .before .fewer .result) (c .before .before .before .before .before .fewer2 .result)
+    (c .before .before .before .before .before .before .lowest .result) (c .before .before .before .lowest2 .result) (high c) (middle c))
 
 fewer-requires : tie.Need-fewer-requires
 fewer-requires c κs = search needs
@@ -65,7 +84,8 @@ add-result-2 c = let j = c .before .before .before .before .before .before .befo
     let u = c .before .before .before .before .before .fewer2 .result in
     let w = c .before .before .fewer3 .result in
     let i = c .before .before .before .before .before .before .lowest .result * 2 ^ u % 18446744073709551616 + c .before .before .before .lowest2 .result in
-    rw (shift-joins (j + u) w i (c .lowest3 .result) (inner-below c) (few c)) (omega (arith, power-fits (j + u + w) (i * 2 ^ w + c .lowest3 .result) (join-below (j + u) w i (c .lowest3 .result) (inner-below c) (low c)) (few c)))
+    rw (shift-joins (j + u) w i (c .lowest3 .result) (inner-below c) (few c))
+    (omega (arith, power-fits (j + u + w) (i * 2 ^ w + c .lowest3 .result) (join-below (j + u) w i (c .lowest3 .result) (inner-below c) (low c)) (few c)))
 
 returns : tie.Need-returns
 unfolding moveOf
@@ -74,8 +94,16 @@ returns c = let j = c .before .before .before .before .before .before .before .f
     let w = c .before .before .fewer3 .result in
     let i = c .before .before .before .before .before .before .lowest .result * 2 ^ u % 18446744073709551616 + c .before .before .before .lowest2 .result in
     shift-joins (j + u) w i (c .lowest3 .result) (inner-below c) (few c)
-    ∙ ap (λ (x : ℕ). x * 2 ^ w + c .lowest3 .result) (shift-joins j u (c .before .before .before .before .before .before .lowest .result) (c .before .before .before .lowest2 .result) (high c) (omega (arith, few c)))
-    ∙ rw (c .lowest3 .ensures, c .before .before .before .lowest2 .ensures, c .before .before .before .before .before .before .lowest .ensures, c .before .before .fewer3 .ensures, c .before .before .before .before .before .fewer2 .ensures, c .before .before .before .before .before .before .before .fewer .ensures)
+    ∙ ap (λ (x : ℕ). x * 2 ^ w + c .lowest3 .result) (shift-joins j u (c .before .before .before .before .before .before .lowest .result)
+    (c .before .before .before .lowest2 .result) (high c) (omega (arith, few c)))
+    ∙ rw (
+      c .lowest3 .ensures,
+      c .before .before .before .lowest2 .ensures,
+      c .before .before .before .before .before .before .lowest .ensures,
+      c .before .before .fewer3 .ensures,
+      c .before .before .before .before .before .fewer2 .ensures,
+      c .before .before .before .before .before .before .before .fewer .ensures,
+    )
 
 pub move-of-spec : {M : Type 1} → statement M
 move-of-spec =

@@ -25,7 +25,12 @@ mul-names c = search needs
 
 slice-write-names : tie.Need-slice-write-names
 unfolding variable
-slice-write-names c = let a = c .before .before .before .args in omega (arith, variable-within (getD (a .literals .now) (a .i) 0), ap (λ n. n / 2) (c .literal-at .ensures))
+slice-write-names c = let a = c .before .before .before .args in omega (
+  arith,
+  variable-within (getD (a .literals .now) (a .i) 0),
+  ap (λ n. n / 2)
+      (c .literal-at .ensures),
+)
 
 same-length : tie.Need-same-length
 same-length c = search needs
@@ -33,7 +38,8 @@ same-length c = search needs
 returns : tie.Need-returns
 unfolding variable
 returns c = let a = c .before .before .before .args in
-    let here : variable (literalOf (getD (a .literals .now) (a .i) 0)) < length (a .names .now) = omega (arith, variable-within (getD (a .literals .now) (a .i) 0)) in
+    let here : variable (literalOf (getD (a .literals .now) (a .i) 0)) < length (a .names .now) = omega
+    (arith, variable-within (getD (a .literals .now) (a .i) 0)) in
     rw (c .literal-at .ensures) (name-set (a .names .now) (variable (literalOf (getD (a .literals .now) (a .i) 0))) (a .v) here)
 
 pub name-at-spec : {M : Type 1} → statement M

@@ -24,7 +24,8 @@ add-result : tie.Need-add-result
 add-result c = let a = c .before .before .before .args in omega (arith, c .before .before .before .pre (a .l / 2), c .name-of .ensures)
 
 returns-2 : tie.Need-returns-2
-returns-2 c = let a = c .before .before .before .args in ap (λ (n : ℕ). 2 * n + a .l % 2) (c .name-of .ensures) ∙ sym (literal-made (namesIn (a .names .now)) (a .l) (search needs))
+returns-2 c = let a = c .before .before .before .args in ap (λ (n : ℕ). 2 * n + a .l % 2) (c .name-of .ensures)
+    ∙ sym (literal-made (namesIn (a .names .now)) (a .l) (search needs))
 
 pub net-literal-spec : {M : Type 1} → statement M
 net-literal-spec =

@@ -46,7 +46,9 @@ loop-again : tie.Need-loop-again Inv-loop μ-loop
 loop-again c = let a = c .before .before .before .before .before .before .before .before .args in
     let p = c .before .before .before .before .before .before .before .before .pre in
     let l = c .before .before .before .loop in
-    nexts-next (a .latch .now) (a .next .now) (a .latches) (p .0) (p .1 .0) (namesIn (a .names .now)) (a .numbers .now) (l .i) (c .net-literal .result) (l .numbers) (l .inv) (c .before .before .loop-test .taken) (c .net-literal .ensures ∙ ap (netLiteral (namesIn (a .names .now))) (c .before .literal-at .ensures))
+    nexts-next (a .latch .now) (a .next .now) (a .latches) (p .0) (p .1 .0) (namesIn (a .names .now)) (a .numbers .now) (l .i) (c .net-literal .result)
+    (l .numbers) (l .inv) (c .before .before .loop-test .taken) (c .net-literal .ensures ∙ ap (netLiteral (namesIn (a .names .now)))
+    (c .before .literal-at .ensures))
 
 same-length : tie.Need-same-length Inv-loop μ-loop
 same-length c = search needs
@@ -55,7 +57,8 @@ returns : tie.Need-returns Inv-loop μ-loop
 returns c = let a = c .before .before .before .before .before .before .args in
     let p = c .before .before .before .before .before .before .pre in
     let l = c .before .loop in
-    nexts-end (a .latch .now) (a .next .now) (a .latches) (p .0) (p .1 .0) (namesIn (a .names .now)) (a .numbers .now) (l .i) (l .numbers) (l .inv) (c .loop-test .left)
+    nexts-end (a .latch .now) (a .next .now) (a .latches) (p .0) (p .1 .0) (namesIn (a .names .now)) (a .numbers .now) (l .i) (l .numbers) (l .inv)
+    (c .loop-test .left)
 
 pub put-nexts-spec : {M : Type 1} → statement M
 put-nexts-spec =
