@@ -9,4 +9,5 @@ pub mod Reply
 pub mod Attack
 pub mod Play
 pub mod CircuitGame
+pub mod NetGame
 pub mod Alike

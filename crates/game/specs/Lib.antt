@@ -8,5 +8,6 @@ pub mod Attack
 pub mod Verdict
 pub mod Play
 pub mod CircuitGame
+pub mod NetGame
 pub mod Alike
 pub mod Listing

@@ -1,0 +1,5 @@
+pub mod Net
+pub mod Move
+pub mod NetOf
+pub mod InOrder
+pub mod Made
