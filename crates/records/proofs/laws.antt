@@ -4,7 +4,6 @@ pub mod ReplyBytes
 pub mod Shape
 pub mod Tables
 pub mod Parts
-pub mod UnusedBits
 pub mod Rows
 pub mod Lengths
 pub mod ReadBack

@@ -1,15 +1,11 @@
 -- The region record (01, "The certificate", kind 2): state s at bit s mod 8 of byte s div 8; 2^L bits, unused bits 0, at least one byte.
 -- Assumes nothing.
-use Prim.Native.Nat.{ℕ, _+_, _*_, _/_, _%_, _^_}
-use mathlib.Core.Bool.{Bool, _&&_}
+use Prim.Native.Nat.{ℕ, _+_, _/_, _%_, _^_}
+use mathlib.Core.Bool.{Bool}
 use mathlib.Core.List.{List}
-use lib.Dec.{eqb, leb, ltb}
-use lib.ListN.{length}
-use Rattle.below.specs.Least.{any}
-use Rattle.below.specs.Table.{table}
-use Rattle.bits.specs.Bit.{oneIf}
+use lib.Dec.{eqb}
+use Rattle.bits.specs.BitBytes.{bitBytes, unusedBit}
 use Rattle.bits.specs.ByteBit.{byteBit}
-use Rattle.bits.specs.Digits.{sum}
 
 -- ceil(2^L / 8)
 unfoldable pub regionLength : ℕ → ℕ
@@ -21,9 +17,8 @@ holdsState bytes L s = eqb (byteBit bytes (s % 2 ^ L)) 1
 
 -- some bit of these bytes that stands for no state is 1
 unfoldable pub unusedBitSet : List ℕ → ℕ → Bool
-unusedBitSet bytes L = any (λ i. leb (2 ^ L) i && eqb (byteBit bytes i) 1) (8 * length bytes)
+unusedBitSet bytes L = unusedBit bytes (2 ^ L)
 
 -- the bytes that store a set of states
 unfoldable pub regionBytes : (ℕ → Bool) → ℕ → List ℕ
-regionBytes set L =
-    table (λ j. sum 2 (table (λ k. oneIf (ltb (8 * j + k) (2 ^ L) && set (8 * j + k))) 8)) (regionLength L)
+regionBytes set L = bitBytes set (2 ^ L)

@@ -7,6 +7,7 @@ use mathlib.Core.Path.{_≡_, sym, ap, _∙_}
 use lib.ListN.{length, length-append}
 use Rattle.below.proofs.laws.Table.{length-table}
 use Rattle.bits.specs.Digits.{digits}
+use Rattle.bits.proofs.laws.BitBytes.{length-bit-bytes}
 use Rattle.bits.proofs.laws.Digits.{length-digits}
 use Rattle.records.specs.AttackTable.{attackBytes, attackLength}
 use Rattle.records.specs.Record.{recordOf, headLength}
@@ -21,8 +22,8 @@ length-record kind contents =
     ∙ omega (arith, length-append (digits 256 4 (length contents)) (digits 256 2 kind), length-digits 256 4 (length contents), length-digits 256 2 kind)
 
 pub length-region : (set : ℕ → Bool) (L : ℕ) → length (regionBytes set L) ≡ regionLength L
-unfolding regionBytes
-length-region set L = length-table _ (regionLength L)
+unfolding regionBytes regionLength
+length-region set L = length-bit-bytes set (2 ^ L)
 
 pub length-replies : (replies : ℕ → ℕ → ℕ) (L U : ℕ) → length (replyBytes replies L U) ≡ replyLength L U
 unfolding replyBytes

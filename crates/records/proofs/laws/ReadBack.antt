@@ -15,59 +15,25 @@ use Rattle.below.specs.Table.{table}
 use Rattle.below.proofs.laws.Least.{none-any}
 use Rattle.below.proofs.laws.Table.{length-table, getD-table}
 use Rattle.bits.specs.Bit.{bit, oneIf}
+use Rattle.bits.specs.BitBytes.{bitBytes}
 use Rattle.bits.specs.ByteBit.{byteBit}
 use Rattle.bits.specs.Digits.{digits, sum}
-use Rattle.bits.proofs.laws.Bit.{bit-sum}
-use Rattle.bits.proofs.laws.Digits.{sum-digits, all-below-of}
+use Rattle.bits.proofs.laws.BitBytes.{bit-is, no-unused-bit}
+use Rattle.bits.proofs.laws.Digits.{sum-digits}
 use Rattle.records.specs.AttackTable.{attackBytes, storedRank, storedAttack}
 use Rattle.records.specs.RegionBits.{regionBytes, regionLength, holdsState, unusedBitSet}
 use Rattle.records.specs.ReplyBytes.{replyBytes, replyLength, storedReply}
 use Rattle.records.proofs.laws.Lengths.{length-region}
 use Rattle.records.proofs.laws.Rows.{rows-in-turn, length-row, row-at}
 
-one-if-below : (b : Bool) → oneIf b < 2
-unfolding oneIf
-one-if-below true = omega arith
-one-if-below false = omega arith
-
-is-one : (b : Bool) → eqb (oneIf b) 1 ≡ b
-unfolding oneIf
-is-one true = refl
-is-one false = refl
-
 module _ (set : ℕ → Bool) (L : ℕ) where
-  -- the bit of a place, a state's or an unused one
-  bitAt : ℕ → ℕ
-  bitAt i = oneIf (ltb i (2 ^ L) && set i)
-
-  pub region-bit : (i : ℕ) → i < 8 * regionLength L → byteBit (regionBytes set L) i ≡ oneIf (ltb i (2 ^ L) && set i)
-  unfolding byteBit regionBytes bitAt
-  region-bit i h =
-      ap (λ (n : ℕ). bit n (i % 8)) (getD-table (λ j. sum 2 (table (λ k. bitAt (8 * j + k)) 8)) (regionLength L) (i / 8) 0 (omega arith))
-      ∙ bit-sum (table (λ k. bitAt (8 * (i / 8) + k)) 8) (i % 8) (all-below-of 2 (table (λ k. bitAt (8 * (i / 8) + k)) 8) below) (omega (arith, length-table (λ k. bitAt (8 * (i / 8) + k)) 8))
-      ∙ getD-table (λ k. bitAt (8 * (i / 8) + k)) 8 (i % 8) 0 (omega arith)
-      ∙ ap bitAt (omega arith)
-    where
-      below : (k : ℕ) → k < length (table (λ k. bitAt (8 * (i / 8) + k)) 8) → getD (table (λ k. bitAt (8 * (i / 8) + k)) 8) k 0 < 2
-      below k l = subst (λ (n : ℕ). n < 2) (sym (getD-table (λ k. bitAt (8 * (i / 8) + k)) 8 k 0 (omega (arith, length-table (λ k. bitAt (8 * (i / 8) + k)) 8)))) (one-if-below (ltb (8 * (i / 8) + k) (2 ^ L) && set (8 * (i / 8) + k)))
-
   pub region-holds : (s : ℕ) → s < 2 ^ L → holdsState (regionBytes set L) L s ≡ set s
-  unfolding holdsState regionLength
-  region-holds s h =
-      ap (λ (n : ℕ). eqb (byteBit (regionBytes set L) n) 1) (mod-eq-of-lt h)
-      ∙ ap (λ (n : ℕ). eqb n 1) (region-bit s (omega arith) ∙ ap (λ (b : Bool). oneIf (b && set s)) (lt-ltb s (2 ^ L) h))
-      ∙ is-one (set s)
+  unfolding holdsState regionBytes
+  region-holds s h = ap (λ (n : ℕ). eqb (byteBit (bitBytes set (2 ^ L)) n) 1) (mod-eq-of-lt h) ∙ bit-is set (2 ^ L) s h
 
   pub region-unused : unusedBitSet (regionBytes set L) L ≡ false
-  unfolding unusedBitSet oneIf
-  region-unused = none-any (λ i. leb (2 ^ L) i && eqb (byteBit (regionBytes set L) i) 1) (8 * length (regionBytes set L)) (λ i h. elim (decLt i (2 ^ L)) [ yes a ↦ ap (λ (b : Bool). b && eqb (byteBit (regionBytes set L) i) 1) (lt-leb (2 ^ L) i a) | no a ↦ past i (omega arith) (omega (arith, length-region set L)) ])
-    where
-      both : (a b : Bool) → b ≡ false → (a && b) ≡ false
-      both true b e = e
-      both false b e = refl
-
-      past : (i : ℕ) → 2 ^ L ≤ i → i < 8 * regionLength L → (leb (2 ^ L) i && eqb (byteBit (regionBytes set L) i) 1) ≡ false
-      past i a l = both (leb (2 ^ L) i) (eqb (byteBit (regionBytes set L) i) 1) (ap (λ (n : ℕ). eqb n 1) (region-bit i l ∙ ap (λ (b : Bool). oneIf (b && set i)) (le-ltb i (2 ^ L) a)))
+  unfolding unusedBitSet regionBytes
+  region-unused = no-unused-bit set (2 ^ L)
 
 pub reply-back : (replies : ℕ → ℕ → ℕ) (L U s r : ℕ) → s < 2 ^ L → r < 2 ^ U → storedReply (replyBytes replies L U) L U s r ≡ replies s r
 unfolding storedReply replyBytes replyLength
