@@ -5,13 +5,13 @@ ghost use mathlib.Core.Bool.{_&&_};
 ghost use mathlib.Core.Path.{_≡_};
 ghost use lib.Dec.{ltb};
 ghost use Rattle.bits.specs.Bit.{oneIf};
-ghost use Rattle.region.specs.RegionTable.{regionByte};
+ghost use Rattle.bits.specs.BitBytes.{bitByte};
 ghost use Rattle.solver.specs.Over.{rankZero};
 
 // Eight states, the first at the lowest bit.
 pub(crate) fn region_byte(ranks: &[u16], states: usize, j: usize) -> u8
     requires { ⌜ j < 2 ^ 32 ⌝ }
-    ensures { λ r. ⌜ r ≡ regionByte (rankZero (now (ranks .entry))) states j ⌝ }
+    ensures { λ r. ⌜ r ≡ bitByte (rankZero (now (ranks .entry))) states j ⌝ }
 {
     let s = 8 * j;
     let b7 = region_bit(ranks, states, s + 7);

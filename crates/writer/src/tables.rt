@@ -13,7 +13,7 @@ ghost use Rattle.bits.specs.Wrote.{Wrote};
 ghost use Rattle.circuit.specs.Limits.{base};
 ghost use Rattle.keeping.specs.RankList.{ranksIn};
 ghost use Rattle.solver.specs.Over.{rankZero};
-ghost use Rattle.region.specs.RegionTable.{regionByte};
+ghost use Rattle.bits.specs.BitBytes.{bitBytes};
 ghost use Rattle.writer.specs.Rows.{attackRow};
 
 // The length and the kind, little-endian.
@@ -36,7 +36,7 @@ pub(crate) fn put_head(out: &mut [u8], at: usize, kind: u16, length: usize) -> u
 pub(crate) fn put_region(out: &mut [u8], at: usize, ranks: &[u16], states: usize) -> usize
     requires { ⌜ at ≤ 2 ^ 63 ⌝ }
     requires { ⌜ states ≤ 2 ^ base .latches ⌝ }
-    ensures { λ r. ⌜ Wrote (table (regionByte (rankZero (now (ranks .entry))) states) ((states + 7) / 8)) at (now (out .entry)) (now (out .exit)) r ⌝ }
+    ensures { λ r. ⌜ Wrote (bitBytes (rankZero (now (ranks .entry))) states) at (now (out .entry)) (now (out .exit)) r ⌝ }
 {
     let region = region::region_of(ranks, states);
     let n = (states + 7) / 8;

@@ -15,7 +15,8 @@ use Rattle.bits.specs.Digits.{sum}
 use Rattle.circuit.specs.Limits.{base}
 use Rattle.keeping.specs.RankList.{ranksIn}
 use Rattle.solver.specs.Over.{rankZero}
-use Rattle.region.specs.RegionTable.{regionByte, regionTable}
+use Rattle.bits.specs.BitBytes.{bitByte}
+use Rattle.region.specs.RegionTable.{regionTable}
 
 module _ (ranks : List ℕ) (states s x : ℕ) (is : x ≡ ranksIn ranks s) where
   pub bit-inside : s < states → x ≡ 0 → 1 ≡ oneIf (ltb s states && rankZero ranks s)
@@ -31,11 +32,11 @@ unfolding oneIf
 bit-past ranks states s h = sym (ap (λ (a : Bool). oneIf (a && rankZero ranks s)) (le-ltb s states h))
 
 module _ (set : ℕ → Bool) (states j : ℕ) where
-  pub byte-of : (b0 b1 b2 b3 b4 b5 b6 b7 : ℕ) → b0 ≡ oneIf (ltb (8 * j) states && set (8 * j)) → b1 ≡ oneIf (ltb (8 * j + 1) states && set (8 * j + 1)) → b2 ≡ oneIf (ltb (8 * j + 2) states && set (8 * j + 2)) → b3 ≡ oneIf (ltb (8 * j + 3) states && set (8 * j + 3)) → b4 ≡ oneIf (ltb (8 * j + 4) states && set (8 * j + 4)) → b5 ≡ oneIf (ltb (8 * j + 5) states && set (8 * j + 5)) → b6 ≡ oneIf (ltb (8 * j + 6) states && set (8 * j + 6)) → b7 ≡ oneIf (ltb (8 * j + 7) states && set (8 * j + 7)) → b0 + 2 * (b1 + 2 * (b2 + 2 * (b3 + 2 * (b4 + 2 * (b5 + 2 * (b6 + 2 * b7)))))) ≡ regionByte set states j
-  unfolding regionByte sum table
+  pub byte-of : (b0 b1 b2 b3 b4 b5 b6 b7 : ℕ) → b0 ≡ oneIf (ltb (8 * j) states && set (8 * j)) → b1 ≡ oneIf (ltb (8 * j + 1) states && set (8 * j + 1)) → b2 ≡ oneIf (ltb (8 * j + 2) states && set (8 * j + 2)) → b3 ≡ oneIf (ltb (8 * j + 3) states && set (8 * j + 3)) → b4 ≡ oneIf (ltb (8 * j + 4) states && set (8 * j + 4)) → b5 ≡ oneIf (ltb (8 * j + 5) states && set (8 * j + 5)) → b6 ≡ oneIf (ltb (8 * j + 6) states && set (8 * j + 6)) → b7 ≡ oneIf (ltb (8 * j + 7) states && set (8 * j + 7)) → b0 + 2 * (b1 + 2 * (b2 + 2 * (b3 + 2 * (b4 + 2 * (b5 + 2 * (b6 + 2 * b7)))))) ≡ bitByte set states j
+  unfolding bitByte sum table
   byte-of b0 b1 b2 b3 b4 b5 b6 b7 e0 e1 e2 e3 e4 e5 e6 e7 = omega (arith, ap (λ (s : ℕ). oneIf (ltb s states && set s)) (add-zero (8 * j)))
 
 -- the first bytes of a region
-pub region-front : (set : ℕ → Bool) (states n : ℕ) → n ≤ 2 ^ base .latches / 8 → take n (regionTable set states) ≡ table (regionByte set states) n
+pub region-front : (set : ℕ → Bool) (states n : ℕ) → n ≤ 2 ^ base .latches / 8 → take n (regionTable set states) ≡ table (bitByte set states) n
 unfolding regionTable
-region-front set states n h = take-table (regionByte set states) (2 ^ base .latches / 8) n h
+region-front set states n h = take-table (bitByte set states) (2 ^ base .latches / 8) n h

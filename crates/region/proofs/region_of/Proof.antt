@@ -7,13 +7,14 @@ use Rattle.below.proofs.laws.Filled.{Filled, filled-start, filled-next, filled-
 use Rattle.below.proofs.laws.Table.{length-table}
 use Rattle.circuit.specs.Limits.{base}
 use Rattle.solver.specs.Over.{rankZero}
-use Rattle.region.specs.RegionTable.{regionByte, regionTable}
+use Rattle.bits.specs.BitBytes.{bitByte}
+use Rattle.region.specs.RegionTable.{regionTable}
 use borrow.Author.Needs.{needs}
 use Rattle.region.proofs.region_of.Statement.{statement}
 use Rattle.region.proofs.region_of.Tie as tie
 
 abbrev Inv-loop : tie.InvT-loop
-Inv-loop ranks states bytes₀ j₀ bytes j = Filled (regionByte (rankZero ranks) states) bytes₀ j bytes × (length bytes₀ ≡ 2 ^ base .latches / 8) × (j ≤ 2 ^ base .latches / 8)
+Inv-loop ranks states bytes₀ j₀ bytes j = Filled (bitByte (rankZero ranks) states) bytes₀ j bytes × (length bytes₀ ≡ 2 ^ base .latches / 8) × (j ≤ 2 ^ base .latches / 8)
 
 abbrev μ-loop : tie.MeasureT-loop
 μ-loop ranks states bytes₀ j₀ bytes j = 2 ^ base .latches / 8 - j

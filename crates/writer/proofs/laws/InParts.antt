@@ -25,7 +25,7 @@ use Rattle.records.proofs.laws.Lengths.{length-region, length-replies, length-a
 use Rattle.solver.specs.Over.{rankZero}
 use Rattle.writer.specs.Answer.{CertifiedAs}
 use Rattle.writer.specs.Certificate.{replyCertificate, attackCertificate}
-use Rattle.region.specs.RegionTable.{regionByte}
+use Rattle.bits.specs.BitBytes.{bitBytes}
 use Rattle.writer.specs.Rows.{attackRow}
 use Rattle.writer.specs.Solved.{Replied, Attacked}
 use Rattle.writer.specs.declared.Certified.the-variants.{Realizable, Unrealizable, Refused}
@@ -46,7 +46,7 @@ module _ (file : List ℕ) (c : Circuit) (states readings : ℕ) (ranks replies 
   pub no-reply-room : (buffer : List ℕ) → length buffer < 18 + length file + (states + 7) / 8 + states * readings → CertifiedAs file (taken c) buffer buffer (Refused (record { number = noRoom; place = 0 }))
   no-reply-room buffer h = certified-refused file c buffer (omega (arith, ap length (replies-of file c (replied .verdict)), reply-room))
 
-  pub replies-in-parts : {before l₁ l₂ l₃ l₄ l₅ after : List ℕ} {n₁ n₂ n₃ n₄ n₅ n₆ : ℕ} → 18 + length file + (states + 7) / 8 + states * readings ≤ length before → Wrote (digits 256 4 (length file) ++ digits 256 2 circuitKind) 0 before l₁ n₁ → Wrote file n₁ l₁ l₂ n₂ → Wrote (digits 256 4 ((states + 7) / 8) ++ digits 256 2 regionKind) n₂ l₂ l₃ n₃ → Wrote (table (regionByte (rankZero ranks) states) ((states + 7) / 8)) n₃ l₃ l₄ n₄ → Wrote (digits 256 4 (states * readings) ++ digits 256 2 replyKind) n₄ l₄ l₅ n₅ → Wrote (take (states * readings) replies) n₅ l₅ after n₆ → CertifiedAs file (taken c) before after (Realizable n₆)
+  pub replies-in-parts : {before l₁ l₂ l₃ l₄ l₅ after : List ℕ} {n₁ n₂ n₃ n₄ n₅ n₆ : ℕ} → 18 + length file + (states + 7) / 8 + states * readings ≤ length before → Wrote (digits 256 4 (length file) ++ digits 256 2 circuitKind) 0 before l₁ n₁ → Wrote file n₁ l₁ l₂ n₂ → Wrote (digits 256 4 ((states + 7) / 8) ++ digits 256 2 regionKind) n₂ l₂ l₃ n₃ → Wrote (bitBytes (rankZero ranks) states) n₃ l₃ l₄ n₄ → Wrote (digits 256 4 (states * readings) ++ digits 256 2 replyKind) n₄ l₄ l₅ n₅ → Wrote (take (states * readings) replies) n₅ l₅ after n₆ → CertifiedAs file (taken c) before after (Realizable n₆)
   unfolding regionLength replyLength
   replies-in-parts {before} {l₁} {l₂} {l₃} {l₄} {l₅} {after} {n₁} {n₂} {n₃} {n₄} {n₅} {n₆} room head circuit second region third cells =
       certified-replies file c n₆ (replied .verdict) (omega (arith, reply-room))

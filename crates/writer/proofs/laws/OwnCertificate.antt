@@ -32,7 +32,7 @@ use Rattle.records.specs.ReplyBytes.{storedReply}
 use Rattle.records.specs.Tables.{Tables, replies, attacks}
 use Rattle.records.proofs.laws.Lengths.{length-region}
 use Rattle.records.proofs.laws.Passed.{reply-inside, reply-outside}
-use Rattle.records.proofs.laws.ReadBack.{region-bit}
+use Rattle.bits.proofs.laws.BitBytes.{bit-of-bytes}
 use Rattle.checker.specs.Answer.{Starts, ofReplies, ofAttacks, startsOf, answerOf}
 use Rattle.checker.specs.Check.{checkOf}
 use Rattle.checker.proofs.laws.ReadPassed.{RepliesTook, replies-took, bits-are, replies-are, AttacksTook, attacks-took, ranks-are, attacks-are, took-answers}
@@ -156,11 +156,11 @@ module _ (file : List ℕ) (c : Circuit) (reads : circuitIn file ≡ taken c) wh
 
     -- each bit of the region record: 1 for a state of the region, else 0; a bit that stands for no state is 0
     pub own-bit : (i : ℕ) → i < 8 * regionLength L → byteBit (drop region own) i ≡ oneIf (ltb i (2 ^ L) && inRegion (circuitGame c) i)
-    unfolding byteBit
+    unfolding byteBit regionBytes regionLength
     own-bit i within =
         ap (λ (b : ℕ). bit b (i % 8)) (sym (getD-take (regionLength L) (drop region own) (i / 8) 0 (omega arith)))
         ∙ ap (λ (l : List ℕ). byteBit l i) region-bytes
-        ∙ region-bit (inRegion (circuitGame c)) L i within
+        ∙ bit-of-bytes (inRegion (circuitGame c)) (2 ^ L) i within
 
     module _ (s : ℕ) (state : s < 2 ^ L) where
       below : s < 2 ^ latchCount c

@@ -25,13 +25,14 @@ use Rattle.game.specs.Rank.{rank, inRegion}
 use Rattle.game.specs.Reply.{reply}
 use Rattle.keeping.specs.RankList.{ranksIn}
 use Rattle.records.specs.AttackTable.{attackBytes}
-use Rattle.records.specs.RegionBits.{regionBytes, regionLength}
+use Rattle.records.specs.RegionBits.{bitBytes, regionLength}
 use Rattle.records.specs.ReplyBytes.{replyBytes, replyLength}
 use Rattle.records.proofs.laws.Rows.{rows-in-turn}
 use Rattle.solver.specs.Over.{rankZero}
 use Rattle.solver.proofs.laws.RankTable.{rank-in-table}
 use Rattle.solver.proofs.laws.Solution.{replies-front, attack-in-table}
-use Rattle.region.specs.RegionTable.{regionByte}
+use Rattle.bits.specs.BitBytes.{bitBytes}
+use Rattle.bits.proofs.laws.BitBytes.{bit-bytes-same}
 use Rattle.writer.specs.Rows.{attackRow}
 use Rattle.writer.specs.Solved.{Solved, Replied, Attacked}
 
@@ -48,14 +49,9 @@ module _ (c : Circuit) (states : ℕ) (ranks : List ℕ) (solved : Solved c stat
   unfolding rankZero inRegion
   zero-is s h = ap (λ (n : ℕ). not (ltb 0 n)) (rank-is s h)
 
-  bit-is : (s : ℕ) → oneIf (ltb s states && rankZero ranks s) ≡ oneIf (ltb s (2 ^ latchCount c) && inRegion (circuitGame c) s)
-  bit-is s = elim (decLt s states) [ yes h ↦ ap₂ (λ (a b : Bool). oneIf (a && b)) (ap (ltb s) (solved .statesAre)) (zero-is s h) | no h ↦ rw (le-ltb s states (omega arith), le-ltb s (2 ^ latchCount c) (omega (arith, solved .statesAre))) ]
-
-  pub region-written : table (regionByte (rankZero ranks) states) ((states + 7) / 8) ≡ regionBytes (inRegion (circuitGame c)) (latchCount c)
-  unfolding regionBytes regionLength regionByte
-  region-written =
-      ap (λ (n : ℕ). table (regionByte (rankZero ranks) states) ((n + 7) / 8)) (solved .statesAre)
-      ∙ table-same _ _ ((2 ^ latchCount c + 7) / 8) (λ j h. ap (sum 2) (table-same (λ k. oneIf (ltb (8 * j + k) states && rankZero ranks (8 * j + k))) (λ k. oneIf (ltb (8 * j + k) (2 ^ latchCount c) && inRegion (circuitGame c) (8 * j + k))) 8 (λ k l. bit-is (8 * j + k))))
+  pub region-written : bitBytes (rankZero ranks) states ≡ regionBytes (inRegion (circuitGame c)) (latchCount c)
+  unfolding regionBytes
+  region-written = bit-bytes-same (rankZero ranks) (inRegion (circuitGame c)) states zero-is ∙ ap (bitBytes (inRegion (circuitGame c))) (solved .statesAre)
 
 pub replies-written : (c : Circuit) (states readings : ℕ) (ranks replies : List ℕ) → Replied c states readings ranks replies → take (states * readings) replies ≡ replyBytes (reply (circuitGame c)) (latchCount c) (uncontrollableCount c)
 unfolding replyBytes replyLength circuitGame

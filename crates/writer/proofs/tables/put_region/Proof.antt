@@ -10,18 +10,21 @@ use Rattle.bits.specs.Wrote.{Wrote}
 use Rattle.bits.proofs.laws.Wrote.{wrote-put}
 use Rattle.circuit.specs.Limits.{base}
 use Rattle.solver.specs.Over.{rankZero}
-use Rattle.region.specs.RegionTable.{regionByte, regionTable}
+use Rattle.bits.specs.BitBytes.{bitBytes}
+use Rattle.bits.proofs.laws.BitBytes.{length-bit-bytes}
+use Rattle.region.specs.RegionTable.{regionTable}
 use Rattle.region.proofs.laws.RegionByte.{region-front}
 use borrow.Author.Needs.{needs}
 use Rattle.writer.proofs.tables.put_region.Statement.{statement}
 use Rattle.writer.proofs.tables.put_region.Tie as tie
 
 -- what is written: as many bytes as the states take
-front-is : (ranks : List ℕ) (states : ℕ) (region : List ℕ) → region ≡ regionTable (rankZero ranks) states → states ≤ 2 ^ base .latches → take ((states + 7) / 8) region ≡ table (regionByte (rankZero ranks) states) ((states + 7) / 8)
+front-is : (ranks : List ℕ) (states : ℕ) (region : List ℕ) → region ≡ regionTable (rankZero ranks) states → states ≤ 2 ^ base .latches → take ((states + 7) / 8) region ≡ bitBytes (rankZero ranks) states
+unfolding bitBytes
 front-is ranks states region e h = ap (take ((states + 7) / 8)) e ∙ region-front (rankZero ranks) states ((states + 7) / 8) (omega arith)
 
 front-long : (ranks : List ℕ) (states : ℕ) (region : List ℕ) → region ≡ regionTable (rankZero ranks) states → states ≤ 2 ^ base .latches → (states + 7) / 8 ≡ length (take ((states + 7) / 8) region)
-front-long ranks states region e h = sym (ap length (front-is ranks states region e h) ∙ length-table (regionByte (rankZero ranks) states) ((states + 7) / 8))
+front-long ranks states region e h = sym (ap length (front-is ranks states region e h) ∙ length-bit-bytes (rankZero ranks) states)
 
 region-of-requires : tie.Need-region-of-requires
 region-of-requires c κs = search needs
