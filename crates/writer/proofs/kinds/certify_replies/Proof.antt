@@ -8,7 +8,7 @@ use lib.Seq.{length-take-le}
 use Rattle.bits.proofs.laws.Wrote.{wrote-put}
 use Rattle.records.specs.Record.{circuitKind, regionKind, replyKind}
 use Rattle.solver.specs.Over.{rankZero}
-use Rattle.bits.specs.BitBytes.{bitBytes}
+use Rattle.bits.specs.BitBytes.{bitByte, bitBytes}
 use Rattle.writer.proofs.laws.Bounds.{few-replies, head-place, table-place}
 use Rattle.writer.proofs.laws.InParts.{no-reply-room, replies-in-parts}
 use borrow.Author.Needs.{needs}
@@ -60,6 +60,7 @@ put-region-requires : tie.Need-put-region-requires
 put-region-requires c κs = let a = c .before .before .before .before .before .before .before .before .before .before .before .before .before .before .before .before .before .before .args in (omega (arith, room (c .before .before .before .before .before .before .before .before .before .before .before .before .before .before .before .before .before .before), c .before .before .before .before .before .before .before .before .before .before .before .before .before .if1 .left, head-place (length (a .file .now)) circuitKind (c .before .before .before .before .before .before .before .before .before .before .before .put-head .ensures), c .before .before .before .before .before .before .before .put-bytes .ensures .0, head-place ((a .states + 7) / 8) regionKind (c .before .before .before .put-head2 .ensures)), c .before .before .before .before .before .before .before .before .before .before .before .before .before .before .before .before .before .before .pre .0)
 
 put-head-requires-3 : tie.Need-put-head-requires-3
+unfolding bitBytes
 put-head-requires-3 c κs = let a = c .before .before .before .before .before .before .before .before .before .before .before .before .before .before .before .before .before .before .before .before .before .before .args in omega (arith, room (c .before .before .before .before .before .before .before .before .before .before .before .before .before .before .before .before .before .before .before .before .before .before), c .before .before .before .before .before .before .before .before .before .before .before .before .before .before .before .before .before .if1 .left, head-place (length (a .file .now)) circuitKind (c .before .before .before .before .before .before .before .before .before .before .before .before .before .before .before .put-head .ensures), c .before .before .before .before .before .before .before .before .before .before .before .put-bytes .ensures .0, head-place ((a .states + 7) / 8) regionKind (c .before .before .before .before .before .before .before .put-head2 .ensures), table-place (bitByte (rankZero (a .ranks .now)) (a .states)) ((a .states + 7) / 8) (c .before .before .before .put-region .ensures))
 
 slice-aggregate-put-bytes : tie.Need-slice-aggregate-put-bytes
@@ -69,6 +70,7 @@ put-bytes-requires-2 : tie.Need-put-bytes-requires-2
 put-bytes-requires-2 c κs = search needs
 
 add-behind : tie.Need-add-behind
+unfolding bitBytes
 add-behind c = let a = c .before .before .before .before .before .before .before .before .before .before .before .before .before .before .before .before .before .before .before .before .before .before .before .before .before .before .before .before .before .before .args in omega (arith, room (c .before .before .before .before .before .before .before .before .before .before .before .before .before .before .before .before .before .before .before .before .before .before .before .before .before .before .before .before .before .before), c .before .before .before .before .before .before .before .before .before .before .before .before .before .before .before .before .before .before .before .before .before .before .before .before .before .if1 .left, head-place (length (a .file .now)) circuitKind (c .before .before .before .before .before .before .before .before .before .before .before .before .before .before .before .before .before .before .before .before .before .before .before .put-head .ensures), c .before .before .before .before .before .before .before .before .before .before .before .before .before .before .before .before .before .before .before .put-bytes .ensures .0, head-place ((a .states + 7) / 8) regionKind (c .before .before .before .before .before .before .before .before .before .before .before .before .before .before .before .put-head2 .ensures), table-place (bitByte (rankZero (a .ranks .now)) (a .states)) ((a .states + 7) / 8) (c .before .before .before .before .before .before .before .before .before .before .before .put-region .ensures), head-place (a .states * a .readings) replyKind (c .before .before .before .before .before .before .before .put-head3 .ensures), c .before .before .put-bytes2 .ensures .0, front (c .before .before .before .before .before .before .before .before .before .before .before .before .before .before .before .before .before .before .before .before .before .before .before .before .before .before .before .before .before .before))
 
 same-length : tie.Need-same-length
