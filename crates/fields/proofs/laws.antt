@@ -2,7 +2,7 @@ pub mod Judged
 pub mod Position
 pub mod PositionNumber
 pub mod PositionFields
+pub mod RowLoop
 pub mod PositionSymbol
-pub mod UsedLoop
 pub mod Picked
 pub mod Decided

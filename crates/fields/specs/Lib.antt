@@ -1,5 +1,1 @@
-pub mod NumberAt
-pub mod RowAt
-pub mod Marks
-pub mod UsedAs
-pub mod WellNamed
+pub mod contracts

@@ -1,20 +1,19 @@
 // What the literals of a line call for (01, "The file", rules 3 and 4; "The numbers", 5 to 7).
 ghost use Prim.Native.Nat.{_<_, _+_, _*_};
-ghost use mathlib.Core.Bool.{_||_};
+ghost use mathlib.Core.Bool.{_&&_, _||_};
 ghost use mathlib.Core.Path.{_≡_};
 ghost use Rattle.circuit.specs.Literal.{tooLarge};
-ghost use Rattle.fields.specs.Marks.{marked, unmarked, numberOr};
+ghost use Rattle.fields.specs.contracts.Marks.{marked, unmarked, numberOr};
 ghost use Rattle.text.specs.Rules.{firstOf, badOwn};
 
-pub fn too_large(m: u16, l: u32) -> bool
+pub fn too_large(m: u32, l: u32) -> bool
     ensures { λ r. ⌜ r ≡ tooLarge m l ⌝ }
 {
-    let m = m as u32;
-    2 * m + 1 < l
+    2 * m as u64 + 1 < l as u64
 }
 
 // A literal that may not define.
-pub fn bad_own(m: u16, l: u32) -> bool
+pub fn bad_own(m: u32, l: u32) -> bool
     ensures { λ r. ⌜ r ≡ badOwn m l ⌝ }
 {
     if too_large(m, l) {
@@ -60,6 +59,15 @@ pub fn either(a: bool, b: bool) -> bool
         return true;
     }
     b
+}
+
+pub fn both(a: bool, b: bool) -> bool
+    ensures { λ r. ⌜ r ≡ (a && b) ⌝ }
+{
+    if a {
+        return b;
+    }
+    false
 }
 
 // The first of 5, 6 and 7 that applies, or 0.

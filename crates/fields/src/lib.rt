@@ -5,4 +5,3 @@ pub mod line;
 pub mod name;
 pub mod number;
 pub mod row;
-pub mod used;

@@ -3,7 +3,7 @@ ghost use Prim.Native.Nat.{_+_};
 ghost use mathlib.Core.Path.{_≡_};
 ghost use lib.ListN.{length, drop};
 ghost use Rattle.bits.specs.Bytes.{startsWith};
-ghost use Rattle.fields.specs.WellNamed.{wellNamed};
+ghost use Rattle.fields.specs.contracts.WellNamed.{wellNamed};
 ghost use Rattle.text.specs.Number.{run};
 ghost use Rattle.text.specs.Symbol.{isNameByte, isComment};
 

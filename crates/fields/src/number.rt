@@ -1,7 +1,7 @@
 // Numbers (01, "The file"): one to seven decimal digits, without a leading zero unless it is 0 itself.
 ghost use Prim.Native.Nat.{_+_};
 ghost use mathlib.Core.Path.{_≡_};
-ghost use Rattle.fields.specs.NumberAt.{digitAt, NumberAt};
+ghost use Rattle.fields.specs.contracts.NumberAt.{digitAt, NumberAt};
 
 // A number with the place behind it, or none.
 pub enum Num {

@@ -1,3 +1,4 @@
 pub mod FoundLine
+pub mod HeaderLine
 pub mod SymbolHere
 pub mod Decided

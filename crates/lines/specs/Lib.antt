@@ -1,3 +1,1 @@
-pub mod LinedAs
-pub mod Named
-pub mod SymboledAs
+pub mod contracts

@@ -1,5 +1,5 @@
 // One line behind the gates (01, "The file", rules 5 and 6): a symbol, the comment's line, or neither.
-use circuit::Circuit;
+use crate::header::Header;
 use fields::name::is_comment;
 use fields::name::is_named;
 use fields::name::starts_with;
@@ -11,8 +11,9 @@ ghost use mathlib.Core.Bool.{_&&_};
 ghost use lib.Dec.{eqb};
 ghost use lib.ListN.{getD, drop};
 ghost use Rattle.bits.specs.Bytes.{startsWith};
-ghost use Rattle.lines.specs.Named.{counted, slotOf};
-ghost use Rattle.lines.specs.SymboledAs.{SymbolAt, SymbolAs};
+ghost use Rattle.lines.specs.contracts.Headed.{said};
+ghost use Rattle.lines.specs.contracts.Named.{slotOf};
+ghost use Rattle.lines.specs.contracts.SymboledAs.{SymbolAt, SymbolAs};
 ghost use Rattle.text.specs.Symbol.{positions, inputLetter, prefix};
 
 // What a line behind the gates is: the comment's, a symbol's (where its mark stands, its position, and whether it makes an input
@@ -23,9 +24,9 @@ pub enum Symboled {
     Bad,
 }
 
-// A whole line, where so many inputs and latches can be named and the marked positions were named above.
-pub fn symbol_line(line: &[u8], inputs: usize, latches: usize, named: &[u8]) -> Symboled
-    ensures { λ r. ⌜ SymbolAs inputs latches (now (named .entry)) (now (line .entry)) r ⌝ }
+// A whole line, where a header's counts say which positions can be named and the marked ones were named above.
+pub fn symbol_line(line: &[u8], h: Header, named: &[u8]) -> Symboled
+    ensures { λ r. ⌜ SymbolAs (said h) (now (named .entry)) (now (line .entry)) r ⌝ }
 {
     if is_comment(line) {
         return Symboled::Comment;
@@ -37,7 +38,7 @@ pub fn symbol_line(line: &[u8], inputs: usize, latches: usize, named: &[u8]) -> 
     let Num::Is(position, next) = number_at(line, 1) else {
         return Symboled::Bad;
     };
-    symbol_at(line, letter, position, next, inputs, latches, named)
+    symbol_at(line, letter, position, next, h, named)
 }
 
 // What stands behind a letter and its position.
@@ -46,17 +47,16 @@ fn symbol_at(
     letter: u8,
     position: u32,
     next: usize,
-    inputs: usize,
-    latches: usize,
+    h: Header,
     named: &[u8],
 ) -> Symboled
     requires { ⌜ next < 2 ^ 63 ⌝ }
-    ensures { λ r. ⌜ SymbolAt inputs latches (now (named .entry)) letter position (drop next (now (line .entry))) r ⌝ }
+    ensures { λ r. ⌜ SymbolAt (said h) (now (named .entry)) letter position (drop next (now (line .entry))) r ⌝ }
 {
     if is_named(line, next) {
         let p = position as usize;
-        if p < positions_of(letter, inputs, latches) {
-            let slot = slot_of(letter, position);
+        if p < positions_of(letter, h) {
+            let slot = slot_of(letter, position, h);
             if is_set(named, slot) {
                 return Symboled::Bad;
             }
@@ -68,33 +68,33 @@ fn symbol_at(
 }
 
 // How many positions a letter has.
-fn positions_of(letter: u8, inputs: usize, latches: usize) -> usize
-    ensures { λ r. ⌜ r ≡ positions (counted inputs latches) letter ⌝ }
+fn positions_of(letter: u8, h: Header) -> usize
+    ensures { λ r. ⌜ r ≡ positions (said h) letter ⌝ }
 {
     if letter == 105 {
-        return inputs;
+        return h.inputs as usize;
     }
     if letter == 108 {
-        return latches;
+        return h.latches as usize;
     }
     if letter == 111 {
-        return Circuit::OUTPUTS;
+        return h.outputs as usize;
     }
     0
 }
 
 // Where the marks have a letter's position.
-fn slot_of(letter: u8, position: u32) -> usize
-    ensures { λ r. ⌜ r ≡ slotOf letter position ⌝ }
+fn slot_of(letter: u8, position: u32, h: Header) -> usize
+    ensures { λ r. ⌜ r ≡ slotOf (said h) letter position ⌝ }
 {
     let p = position as usize;
     if letter == 105 {
         return p;
     }
     if letter == 108 {
-        return Circuit::INPUTS + p;
+        return h.inputs as usize + p;
     }
-    Circuit::INPUTS + Circuit::LATCHES + p
+    h.inputs as usize + h.latches as usize + p
 }
 
 fn is_set(marks: &[u8], i: usize) -> bool

@@ -1,7 +1,11 @@
-pub mod SectionLoop
-pub mod SymbolLoop
 pub mod BodyLoop
-pub mod LinesLoop
-pub mod TextLoop
-pub mod ReadLoop
+pub mod ColumnLoop
 pub mod FileLoop
+pub mod Lined
+pub mod Place
+pub mod ReadLoop
+pub mod RowsFile
+pub mod Sections
+pub mod SymbolLoop
+pub mod TextLoop
+pub mod UsedLoop

@@ -1,8 +1,10 @@
 // Reading a file (01, "The numbers"): a circuit, or number and place.
-use crate::body::Bodied;
-use crate::body::Sectioned;
-use crate::body::body_lines;
-use crate::symbols::symbol_lines;
+use crate::behind::text_lines;
+use crate::body::Reached;
+use crate::column::circuit_of;
+use crate::column::no_gates;
+use crate::column::no_inputs;
+use crate::column::no_latches;
 use circuit::Circuit;
 use circuit::FileRead;
 use circuit::Read;
@@ -12,26 +14,31 @@ use circuit::counts::too_many;
 use circuit::counts::uncontrollable_count;
 use fields::line::Cursor;
 use fields::line::line_end;
-use fields::name::starts_with;
-use fields::row::Row;
-use fields::row::five_at;
-ghost use Prim.Native.Nat.{_+_, _≤_};
-ghost use mathlib.Core.List.{[], _∷_};
+use lines::header::Headed;
+use lines::header::Header;
+use lines::header::header_line;
+ghost use Prim.Native.Nat.{_+_, _*_, _≤_};
 ghost use mathlib.Core.Path.{_≡_};
-ghost use lib.ListN.{length};
 ghost use Rattle.below.specs.Table.{table};
 ghost use Rattle.circuit.specs.Answer.{ReadAs};
 ghost use Rattle.circuit.specs.Limits.{base};
 ghost use Rattle.circuit.specs.Stored.{stored, emptyCircuit};
-ghost use Rattle.reader.specs.BodyRead.{headerWith};
-ghost use Rattle.reader.specs.CountedAs.{CountedAs};
-ghost use Rattle.text.specs.Header.{withinLimits, headerOf};
-ghost use Rattle.reader.specs.LinesAs.{LinesRoom, LinesAs, HeaderAs};
+ghost use Rattle.lines.specs.contracts.Headed.{said};
+ghost use Rattle.reader.specs.contracts.CountedAs.{CountedAs};
+ghost use Rattle.reader.specs.contracts.LinesAs.{LinesRoom, LinesAs};
+ghost use Rattle.text.specs.Header.{withinLimits};
 ghost use Rattle.text.specs.Read.{circuitRead};
-ghost use Rattle.fields.specs.RowAt.{Small};
-ghost use Rattle.reader.specs.TextAt.{NameRoom, NamedAs, TextRoom, TextAs};
 
-// Nothing is marked: a byte for each variable, and one for each position that a symbol can name.
+// As many numbers as the rows of a circuit's lines have: three for each variable that a line defines, and for the output.
+const ROWS: usize = 3 * Circuit::VALUES;
+
+fn no_rows() -> [u16; ROWS]
+    ensures { λ r. ⌜ r ≡ table (λ i. 0) (3 * (base .variable + 1)) ⌝ }
+{
+    [0u16; ROWS]
+}
+
+// Nothing is marked: a byte for each variable, for each position that a symbol can name, for each input.
 fn no_marks() -> [u8; Circuit::VALUES]
     ensures { λ r. ⌜ r ≡ table (λ i. 0) (base .variable + 1) ⌝ }
 {
@@ -44,88 +51,10 @@ fn no_names() -> [u8; Circuit::NAMES]
     [0u8; Circuit::NAMES]
 }
 
-// The symbols, behind the other lines.
-fn name_lines(
-    s: &[u8],
-    from: Cursor,
-    output: u16,
-    latches: usize,
-    inputs: usize,
-    flags: &mut [u8],
-) -> Bodied
-    requires { ⌜ NameRoom (now s) from inputs latches (now flags) ⌝ }
-    ensures { λ r. ⌜ NamedAs inputs latches (now (s .entry)) from output (now (flags .exit)) r ⌝ }
-{
-    let mut named = no_names();
-    match symbol_lines(s, from, inputs, latches, &mut named, flags) {
-        Sectioned::Refused(r) => Bodied::Refused(r),
-        Sectioned::Done(behind) => Bodied::Lines(behind, output),
-    }
-}
-
-// All lines behind the header.
-fn text_lines(
-    s: &[u8],
-    from: Cursor,
-    m: u16,
-    input: &mut [u16],
-    flags: &mut [u8],
-    latch: &mut [u16],
-    next: &mut [u16],
-    gate: &mut [u16],
-    left: &mut [u16],
-    right: &mut [u16],
-) -> Bodied
-    requires { ⌜ TextRoom (now s) from m (now input) (now flags) (now latch) (now next) (now gate) (now left) (now right) ⌝ }
-    ensures { λ r. ⌜ TextAs (headerWith m (length (now (input .entry))) (length (now (latch .entry))) (length (now (gate .entry)))) (now (s .entry)) from (now (input .exit)) (now (flags .exit)) (now (latch .exit)) (now (next .exit)) (now (gate .exit)) (now (left .exit)) (now (right .exit)) r ⌝ }
-{
-    let mut defined = no_marks();
-    match body_lines(
-        s,
-        from,
-        m,
-        &mut defined,
-        input,
-        latch,
-        next,
-        gate,
-        left,
-        right,
-    ) {
-        Bodied::Refused(r) => Bodied::Refused(r),
-        Bodied::Lines(behind, output) => name_lines(
-            s,
-            behind,
-            output,
-            latch.len(),
-            input.len(),
-            flags,
-        ),
-    }
-}
-
-fn no_inputs() -> [u16; Circuit::INPUTS]
-    ensures { λ r. ⌜ r ≡ table (λ i. 0) (base .inputs) ⌝ }
-{
-    [0u16; Circuit::INPUTS]
-}
-
 fn no_flags() -> [u8; Circuit::INPUTS]
     ensures { λ r. ⌜ r ≡ table (λ i. 0) (base .inputs) ⌝ }
 {
     [0u8; Circuit::INPUTS]
-}
-
-fn no_latches() -> [u16; Circuit::LATCHES]
-    ensures { λ r. ⌜ r ≡ table (λ i. 0) (base .latches) ⌝ }
-{
-    [0u16; Circuit::LATCHES]
-}
-
-fn no_gates() -> [u16; Circuit::VARIABLES]
-    ensures { λ r. ⌜ r ≡ table (λ i. 0) (base .variable) ⌝ }
-{
-    [0u16; Circuit::VARIABLES]
 }
 
 // The empty circuit, beside a refusal.
@@ -177,85 +106,37 @@ fn counted(circuit: Circuit, inputs: usize) -> FileRead
 }
 
 // The lines behind a header within the limits, and the circuit that they make.
-fn read_lines(
-    s: &[u8],
-    from: Cursor,
-    m: u16,
-    inputs: usize,
-    latches: usize,
-    gates: usize,
-) -> FileRead
-    requires { ⌜ LinesRoom (now s) from m inputs latches gates ⌝ }
-    ensures { λ r. ⌜ LinesAs (headerWith m inputs latches gates) (now (s .entry)) from r ⌝ }
+fn read_lines(s: &[u8], from: Cursor, h: Header) -> FileRead
+    requires { ⌜ LinesRoom (now s) from (said h) ⌝ }
+    ensures { λ r. ⌜ LinesAs (said h) (now (s .entry)) from r ⌝ }
 {
-    let mut input = no_inputs();
+    let mut defined = no_marks();
+    let mut rows = no_rows();
+    let mut named = no_names();
     let mut flags = no_flags();
-    let mut latch = no_latches();
-    let mut next = no_latches();
-    let mut gate = no_gates();
-    let mut left = no_gates();
-    let mut right = no_gates();
-    match text_lines(
-        s,
-        from,
-        m,
-        &mut input[..inputs],
-        &mut flags[..inputs],
-        &mut latch[..latches],
-        &mut next[..latches],
-        &mut gate[..gates],
-        &mut left[..gates],
-        &mut right[..gates],
-    ) {
-        Bodied::Refused(r) => refused(r.number, r.place),
-        Bodied::Lines(_, output) => counted(
-            Circuit {
-                largest: m,
-                inputs,
-                latches,
-                gates,
-                input,
-                controllable: flags,
-                latch,
-                next,
-                output,
-                gate,
-                left,
-                right,
-            },
-            inputs,
-        ),
+    match text_lines(s, from, h, &mut defined, &mut rows, &mut named, &mut flags) {
+        Reached::Refused(r) => refused(r.number, r.place),
+        Reached::At(_) => counted(circuit_of(h, &rows, flags), h.inputs as usize),
     }
-}
-
-// `aag` and five numbers.
-fn header_line(line: &[u8]) -> Row
-    ensures { λ r. ⌜ HeaderAs (now (line .entry)) r ⌝ }
-{
-    if starts_with(b"aag ", line, 0) {
-        return five_at(line, 4);
-    }
-    Row::Bad
 }
 
 // Whether the header's numbers keep the limits.
-fn within(m: u32, inputs: u32, latches: u32, outputs: u32, gates: u32) -> bool
-    requires { ⌜ Small m inputs latches outputs gates ⌝ }
-    ensures { λ r. ⌜ r ≡ withinLimits base (headerOf (m ∷ inputs ∷ latches ∷ outputs ∷ gates ∷ [])) ⌝ }
+fn within(h: Header) -> bool
+    ensures { λ r. ⌜ r ≡ withinLimits base (said h) ⌝ }
 {
-    if Circuit::VARIABLES < m as usize {
+    if Circuit::VARIABLES < h.largest as usize {
         return false;
     }
-    if Circuit::INPUTS < inputs as usize {
+    if Circuit::INPUTS < h.inputs as usize {
         return false;
     }
-    if Circuit::LATCHES < latches as usize {
+    if Circuit::LATCHES < h.latches as usize {
         return false;
     }
-    if outputs as usize != Circuit::OUTPUTS {
+    if h.outputs as usize != Circuit::OUTPUTS {
         return false;
     }
-    inputs + latches + gates <= m
+    h.inputs as usize + h.latches as usize + h.gates as usize <= h.largest as usize
 }
 
 // Reads a file of any content: the circuit that its text means, or the number and the place that its faults call for.
@@ -266,18 +147,11 @@ pub fn read(file: &[u8]) -> FileRead
         return refused(1, 0);
     }
     let end = line_end(file, 0);
-    let Row::Of(m, inputs, latches, outputs, gates) = header_line(&file[..end]) else {
+    let Headed::Is(h) = header_line(&file[..end]) else {
         return refused(2, 1);
     };
-    if within(m, inputs, latches, outputs, gates) {
-        return read_lines(
-            file,
-            Cursor { at: end, line: 2 },
-            m as u16,
-            inputs as usize,
-            latches as usize,
-            gates as usize,
-        );
+    if within(h) {
+        return read_lines(file, Cursor { at: end, line: 2 }, h);
     }
     refused(3, 1)
 }

@@ -1,14 +1,16 @@
-// Symbol lines and the comment (01, "The file", rules 5 and 6).
-use crate::body::Sectioned;
+// Symbol lines and the comment (01, "The file", rules 5 and 6), by the counts of a header.
+use crate::body::Reached;
 use circuit::Refusal;
 use fields::line::Cursor;
 use fields::line::line_end;
+use lines::header::Header;
 use lines::symbol::Symboled;
 use lines::symbol::symbol_line;
 ghost use mathlib.Core.Path.{_≡_};
 ghost use mathlib.Core.Bool.{cond};
 ghost use lib.ListN.{set};
-ghost use Rattle.reader.specs.SymbolsAs.{SymbolRoom, SymbolsAs};
+ghost use Rattle.lines.specs.contracts.Headed.{said};
+ghost use Rattle.reader.specs.contracts.SymbolsAs.{SymbolRoom, SymbolsAs};
 
 fn set_if(test: bool, marks: &mut [u8], i: usize)
     ensures { λ r. ⌜ now (marks .exit) ≡ cond test (set (now (marks .entry)) i 1) (now (marks .entry)) ⌝ }
@@ -24,24 +26,23 @@ fn set_if(test: bool, marks: &mut [u8], i: usize)
 pub(crate) fn symbol_lines(
     s: &[u8],
     from: Cursor,
-    inputs: usize,
-    latches: usize,
+    h: Header,
     named: &mut [u8],
     flags: &mut [u8],
-) -> Sectioned
-    requires { ⌜ SymbolRoom (now s) from inputs latches (now named) (now flags) ⌝ }
-    ensures { λ r. ⌜ SymbolsAs inputs latches (now (s .entry)) from (now (flags .exit)) r ⌝ }
+) -> Reached
+    requires { ⌜ SymbolRoom (now s) from (said h) (now named) (now flags) ⌝ }
+    ensures { λ r. ⌜ SymbolsAs (said h) (now (s .entry)) from (now (flags .exit)) r ⌝ }
 {
     let mut here = from;
     while here.at < s.len() {
         let at = here.at;
         let end = line_end(s, at);
-        match symbol_line(&s[at..end], inputs, latches, named) {
+        match symbol_line(&s[at..end], h, named) {
             Symboled::Comment => {
-                return Sectioned::Done(here);
+                return Reached::At(here);
             }
             Symboled::Bad => {
-                return Sectioned::Refused(Refusal {
+                return Reached::Refused(Refusal {
                     number: 8,
                     place: here.line,
                 });
@@ -54,5 +55,5 @@ pub(crate) fn symbol_lines(
         here.at = end;
         here.line += 1;
     }
-    Sectioned::Done(here)
+    Reached::At(here)
 }

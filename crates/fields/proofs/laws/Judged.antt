@@ -6,9 +6,9 @@ use mathlib.Core.List.{List, [], _∷_}
 use mathlib.Core.Option.{Option, none, some}
 use mathlib.Core.Path.{_≡_, refl, sym, ap}
 use borrow.Author.Tests.{ltb-false}
-use Rattle.circuit.specs.Literal.{variable, constant, mayDefine, tooLarge}
+use Rattle.circuit.specs.Literal.{variable, constant, tooLarge}
 use Rattle.circuit.specs.Outcome.{taken, refused}
-use Rattle.fields.specs.Marks.{marked, unmarked, Marks, numberOr}
+use Rattle.fields.specs.contracts.Marks.{marked, unmarked, Marks, numberOr}
 use Rattle.text.specs.Numbers.{badLine}
 use Rattle.text.specs.Rules.{Rule, firstOf, badOwn, isDefined, unknown, inputRule, latchRule, outputRule, gateRule}
 use Rattle.text.specs.Section.{judged}
@@ -56,10 +56,6 @@ pub literal-below : (M l : ℕ) → tooLarge M l ≡ false → l < 2 * M + 2
 unfolding tooLarge
 literal-below M l e = omega (arith, ltb-false (2 * M + 1) l e)
 
-pub own-below : (M l : ℕ) → badOwn M l ≡ false → l < 2 * M + 2
-unfolding badOwn
-own-below M l e = literal-below M l (neither (tooLarge M l) (not (mayDefine l)) e .0)
-
 module _ (M : ℕ) (marks defined : List ℕ) (says : Marks marks defined) where
   defined-marked : (l : ℕ) → isDefined defined l ≡ marked marks l
   unfolding isDefined marked Marks
@@ -81,6 +77,7 @@ module _ (M : ℕ) (marks defined : List ℕ) (says : Marks marks defined) where
   unfolding outputRule
   output-fault a = refl
 
-  pub gate-fault : (a b c : ℕ) → gateRule M .fault defined (a ∷ b ∷ c ∷ []) ≡ firstOf (badOwn M a || tooLarge M b || tooLarge M c) (marked marks a) (unmarked marks b || unmarked marks c)
+  pub gate-fault : (a b c : ℕ) → gateRule M .fault defined (a ∷ b ∷ c ∷ []) ≡ firstOf (badOwn M a || tooLarge M b || tooLarge M c) (marked marks a)
+      (unmarked marks b || unmarked marks c)
   unfolding gateRule
   gate-fault a b c = rw (defined-marked a, unknown-unmarked b, unknown-unmarked c)

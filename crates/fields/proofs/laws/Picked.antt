@@ -52,7 +52,8 @@ module _ {A : Type 0} where
       pub picked-one : (i : ℕ) → ((j : ℕ) → q (f j) ≡ eqb j i) → (n : ℕ) → among q (picked n) ≡ (ltb i n && p i)
       unfolding picked among
       picked-one i e zero = rw (le-ltb i 0 (omega arith))
-      picked-one i e (suc n) = more n ∙ rw (picked-one i e n, e n) (elim (ℕ-discrete n i) [ yes s ↦ here s | no d ↦ elim (decLt i n) [ yes l ↦ below d l | no l ↦ above d l ] ])
+      picked-one i e (suc n) = more n ∙ rw (picked-one i e n, e n) (elim (ℕ-discrete n i)
+          [ yes s ↦ here s | no d ↦ elim (decLt i n) [ yes l ↦ below d l | no l ↦ above d l ] ])
         where
           or-false : (a : Bool) → (a || false) ≡ a
           or-false true = refl

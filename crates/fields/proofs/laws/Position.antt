@@ -25,7 +25,8 @@ unfolding firstLine lines before
 lines-behind [] = refl
 lines-behind (b ∷ t) = by (eqb b 10) (lines t) refl (lines-behind t)
   where
-    by : (e : Bool) (ls : List (List ℕ)) → lines t ≡ ls → drop 1 (lines t) ≡ lines (drop (length (getD (lines t) 0 [])) t) → drop 1 (cond e ((b ∷ []) ∷ ls) (before b ls)) ≡ lines (drop (length (getD (cond e ((b ∷ []) ∷ ls) (before b ls)) 0 [])) (b ∷ t))
+    by : (e : Bool) (ls : List (List ℕ)) → lines t ≡ ls → drop 1 (lines t) ≡ lines (drop (length (getD (lines t) 0 [])) t)
+        → drop 1 (cond e ((b ∷ []) ∷ ls) (before b ls)) ≡ lines (drop (length (getD (cond e ((b ∷ []) ∷ ls) (before b ls)) 0 [])) (b ∷ t))
     by true ls q ih = sym q
     by false [] q ih = sym q
     by false (l ∷ ls) q ih = rw q at ih

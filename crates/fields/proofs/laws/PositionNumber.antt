@@ -12,7 +12,7 @@ use lib.Seq.{drop-cons, drop-drop, getD-take, getD-drop}
 use borrow.Author.Tests.{ltb-true, lt-ltb, le-ltb, leb-true, le-leb, lt-leb, eq-eqb, ne-eqb}
 use Rattle.bits.proofs.laws.Bytes.{both-true}
 use Rattle.text.specs.Number.{isDigit, run, isNumeral, decimalValue, number, is, bad}
-use Rattle.fields.specs.NumberAt.{digitAt}
+use Rattle.fields.specs.contracts.NumberAt.{digitAt}
 
 pub run-takes : (p : ℕ → Bool) (t : List ℕ) → take (length (run p t)) t ≡ run p t
 unfolding run
@@ -54,7 +54,8 @@ digit-here : (s : List ℕ) (i : ℕ) → digitAt s i < 10 → (i < length s) ×
 unfolding digitAt
 digit-here s i h = by (ltb i (length s)) (isDigit (getD s i 0)) refl refl h
   where
-    by : (a b : Bool) → ltb i (length s) ≡ a → isDigit (getD s i 0) ≡ b → cond (a && b) (getD s i 0 - 48) 10 < 10 → (i < length s) × (isDigit (getD s i 0) ≡ true) × (cond (ltb i (length s) && isDigit (getD s i 0)) (getD s i 0 - 48) 10 ≡ getD s i 0 - 48)
+    by : (a b : Bool) → ltb i (length s) ≡ a → isDigit (getD s i 0) ≡ b → cond (a && b) (getD s i 0 - 48) 10 < 10
+        → (i < length s) × (isDigit (getD s i 0) ≡ true) × (cond (ltb i (length s) && isDigit (getD s i 0)) (getD s i 0 - 48) 10 ≡ getD s i 0 - 48)
     by true true e f l = (ltb-true _ _ e, f, rw (e, f))
     by true false e f l = absurd (omega arith)
     by false b e f l = absurd (omega arith)
@@ -64,7 +65,12 @@ unfolding digitAt isDigit
 no-digit-here s i h l = by (isDigit (getD s i 0)) refl
   where
     by : (b : Bool) → isDigit (getD s i 0) ≡ b → isDigit (getD s i 0) ≡ false
-    by true f = absurd (omega (arith, rw (lt-ltb i (length s) l, f) at h, leb-true (getD s i 0) 57 (both-true (leb 48 (getD s i 0)) (leb (getD s i 0) 57) f .1)))
+    by true f = absurd (omega (
+      arith,
+      rw (lt-ltb i (length s) l, f) at h,
+      leb-true (getD s i 0) 57
+          (both-true (leb 48 (getD s i 0)) (leb (getD s i 0) 57) f .1),
+    ))
     by false f = f
 
 module _ (s : List ℕ) (at i v : ℕ) (w : Scanned s at i v) where
@@ -74,7 +80,8 @@ module _ (s : List ℕ) (at i v : ℕ) (w : Scanned s at i v) where
       record {
         ds = w .ds ++ (getD s i 0 ∷ []);
         count = omega (arith, w .count, length-append (w .ds) (getD s i 0 ∷ []));
-        whole = w .whole ∙ ap (λ (l : List ℕ). w .ds ++ l) (run-goes-on isDigit s i below digit) ∙ sym (append-assoc (w .ds) (getD s i 0 ∷ []) (run isDigit (drop (suc i) s)));
+        whole = w .whole ∙ ap (λ (l : List ℕ). w .ds ++ l) (run-goes-on isDigit s i below digit)
+            ∙ sym (append-assoc (w .ds) (getD s i 0 ∷ []) (run isDigit (drop (suc i) s)));
         value = decimal-snoc 0 (w .ds) (getD s i 0) ∙ ap₂ (λ (a b : ℕ). a * 10 + b) (w .value) (sym says);
         small = small-more;
         within = λ l. below;
@@ -98,10 +105,13 @@ module _ (s : List ℕ) (at i v : ℕ) (w : Scanned s at i v) where
   -- an eighth digit
   pub too-long : i ≡ at + 7 → digitAt s i < 10 → number (drop at s) ≡ bad
   unfolding number isNumeral
-  too-long e h = rw (lt-leb (length (run isDigit (drop at s))) 7 long) (ap (λ (b : Bool). cond b (is (decimalValue 0 (run isDigit (drop at s))) (drop (length (run isDigit (drop at s))) (drop at s))) bad) (none (leb 1 (length (run isDigit (drop at s))))))
+  too-long e h = rw (lt-leb (length (run isDigit (drop at s))) 7 long) (ap (λ (b : Bool). cond b
+      (is (decimalValue 0 (run isDigit (drop at s))) (drop (length (run isDigit (drop at s))) (drop at s))) bad)
+      (none (leb 1 (length (run isDigit (drop at s))))))
     where
       long : 7 < length (run isDigit (drop at s))
-      long = let (below, digit, says) = digit-here s i h in rw (w .whole, run-goes-on isDigit s i below digit) (omega (arith, length-append (w .ds) (getD s i 0 ∷ run isDigit (drop (suc i) s)), w .count))
+      long = let (below, digit, says) = digit-here s i h in rw (w .whole, run-goes-on isDigit s i below digit)
+          (omega (arith, length-append (w .ds) (getD s i 0 ∷ run isDigit (drop (suc i) s)), w .count))
 
       none : (a : Bool) → (a && false && (not (eqb (getD (run isDigit (drop at s)) 0 0) 48) || eqb (length (run isDigit (drop at s))) 1)) ≡ false
       none true = refl
@@ -137,7 +147,8 @@ module _ (s : List ℕ) (at i v : ℕ) (w : Scanned s at i v) where
   unfolding number isNumeral
   leading-zero h e l =
       rw (scanned-all h, eq-eqb (getD (w .ds) 0 0) 48 (first-digit h (omega arith) ∙ zero-byte e), ne-eqb (length (w .ds)) 1 (omega (arith, w .count)))
-      (ap (λ (b : Bool). cond b (is (decimalValue 0 (w .ds)) (drop (length (w .ds)) (drop at s))) bad) (none (leb 1 (length (w .ds)) && leb (length (w .ds)) 7)))
+      (ap (λ (b : Bool). cond b (is (decimalValue 0 (w .ds)) (drop (length (w .ds)) (drop at s))) bad)
+      (none (leb 1 (length (w .ds)) && leb (length (w .ds)) 7)))
     where
       none : (a : Bool) → (a && false) ≡ false
       none true = refl
@@ -154,7 +165,11 @@ module _ (s : List ℕ) (at i v : ℕ) (w : Scanned s at i v) where
       one false e = eq-eqb (length (w .ds)) 1 e
 
       fine : (not (eqb (getD (w .ds) 0 0) 48) || eqb (length (w .ds)) 1) ≡ true
-      fine = elim (decLt i (at + 2)) [ yes a ↦ one (not (eqb (getD (w .ds) 0 0) 48)) (omega (arith, w .count)) | no a ↦ rw (ne-eqb (getD (w .ds) 0 0) 48 (λ e. other-byte l h (λ q. omega (arith, z q)) (sym (first-digit h l) ∙ e))) ]
+      fine = elim (decLt i (at + 2)) [
+        | yes a ↦ one (not (eqb (getD (w .ds) 0 0) 48)) (omega (arith, w .count))
+        | no a ↦
+            rw (ne-eqb (getD (w .ds) 0 0) 48 (λ e. other-byte l h (λ q. omega (arith, z q)) (sym (first-digit h l) ∙ e)))
+      ]
 
 -- what the scanning loop knows: the digits passed, the digit at hand, the first one, and no more than seven
 pub record Scanning (s : List ℕ) (at first d i v : ℕ) : Type 0 where

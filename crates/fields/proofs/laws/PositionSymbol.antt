@@ -13,14 +13,16 @@ use borrow.Author.Tests.{eq-eqb, ne-eqb, le-leb, lt-leb}
 use Rattle.bits.specs.Bytes.{startsWith, sameBytes}
 use Rattle.text.specs.Number.{run}
 use Rattle.text.specs.Symbol.{isNameByte, isName, isComment}
-use Rattle.fields.specs.WellNamed.{wellNamed}
+use Rattle.fields.specs.contracts.WellNamed.{wellNamed}
 use Rattle.fields.proofs.laws.PositionNumber.{run-goes-on, run-stops}
 
 -- i bytes of the fixed string are met
 module _ (prefix s : List ℕ) (at i : ℕ) where
-  pub prefix-goes-on : i < length prefix → at + i < length s → getD s (at + i) 0 ≡ getD prefix i 0 → startsWith (drop i prefix) (drop (at + i) s) ≡ startsWith (drop (i + 1) prefix) (drop (at + (i + 1)) s)
+  pub prefix-goes-on : i < length prefix → at + i < length s → getD s (at + i) 0 ≡ getD prefix i 0
+      → startsWith (drop i prefix) (drop (at + i) s) ≡ startsWith (drop (i + 1) prefix) (drop (at + (i + 1)) s)
   unfolding startsWith
-  prefix-goes-on h l e = rw (drop-cons prefix i 0 h, drop-cons s (at + i) 0 l, eq-eqb (getD prefix i 0) (getD s (at + i) 0) (sym e)) (ap₂ (λ (a b : ℕ). startsWith (drop a prefix) (drop b s)) (sym (add-one i)) next)
+  prefix-goes-on h l e = rw (drop-cons prefix i 0 h, drop-cons s (at + i) 0 l, eq-eqb (getD prefix i 0) (getD s (at + i) 0) (sym e))
+      (ap₂ (λ (a b : ℕ). startsWith (drop a prefix) (drop b s)) (sym (add-one i)) next)
     where
       next : suc (at + i) ≡ at + (i + 1)
       next = omega arith
@@ -111,7 +113,8 @@ module _ (line : List ℕ) (end : ℕ) where
       and-false false = refl
 
 -- a name by its places
-pub well-named : (line : List ℕ) (at end : ℕ) → end ≡ at + 1 + length (run isNameByte (drop (at + 1) line)) → wellNamed (drop at line) ≡ (eqb (getD line at 0) 32 && sameBytes (drop end line) (10 ∷ []) && (leb 1 (end - (at + 1)) && leb (end - (at + 1)) 200))
+pub well-named : (line : List ℕ) (at end : ℕ) → end ≡ at + 1 + length (run isNameByte (drop (at + 1) line))
+    → wellNamed (drop at line) ≡ (eqb (getD line at 0) 32 && sameBytes (drop end line) (10 ∷ []) && (leb 1 (end - (at + 1)) && leb (end - (at + 1)) 200))
 unfolding wellNamed isName
 well-named line at end e =
     rw (drop-drop 1 at line, getD-drop at line 0 0, add-zero at, size, drop-drop (suc (end - (at + 1))) at line, behind)

@@ -15,9 +15,9 @@ use Rattle.lines.specs.declared.symbol.Symboled.the-variants.{Comment, O
 use Rattle.text.specs.Header.{Header}
 use Rattle.text.specs.Number.{is, bad, number, run}
 use Rattle.text.specs.Symbol.{Symbol, inputLetter, prefix, isNameByte, names, positions, symbolAt, symbolOf, isComment, isControllableName}
-use Rattle.lines.specs.Named.{Named, counted, slotOf}
-use Rattle.fields.specs.WellNamed.{wellNamed}
-use Rattle.lines.specs.SymboledAs.{IsSymbol, SymbolAt, SymbolAs}
+use Rattle.lines.specs.contracts.Named.{Named, slotOf}
+use Rattle.fields.specs.contracts.WellNamed.{wellNamed}
+use Rattle.lines.specs.contracts.SymboledAs.{IsSymbol, SymbolAt, SymbolAs}
 
 -- each byte of a string passes
 abbrev AllPass : (ℕ → Bool) → List ℕ → Type 0
@@ -31,7 +31,8 @@ starts-run p [] t h = refl
 starts-run p (a ∷ ps) [] h = refl
 starts-run p (a ∷ ps) (b ∷ t) h = by (p b) refl (eqb a b) refl (starts-run p ps t (h .1))
   where
-    by : (x : Bool) → p b ≡ x → (y : Bool) → eqb a b ≡ y → startsWith ps (run p t) ≡ startsWith ps t → startsWith (a ∷ ps) (cond x (b ∷ run p t) []) ≡ (eqb a b && startsWith ps t)
+    by : (x : Bool) → p b ≡ x → (y : Bool) → eqb a b ≡ y → startsWith ps (run p t) ≡ startsWith ps t
+        → startsWith (a ∷ ps) (cond x (b ∷ run p t) []) ≡ (eqb a b && startsWith ps t)
     by true e y f ih = ap (λ (z : Bool). eqb a b && z) ih
     by false e true f ih = absurd (true≢false (sym (h .0) ∙ ap p (eqb-true a b f) ∙ e))
     by false e false f ih = rw f
@@ -46,39 +47,45 @@ module _ (h : Header) (seen : List Symbol) (line : List ℕ) (nonempty : 0 < len
   unfolding symbolOf
   symbol-unnumbered e = subst (λ (l : List ℕ). symbolOf h seen l ≡ none) (sym (drop-cons line 0 0 nonempty)) (rw (e, symbolOf))
 
-  pub symbol-numbered : (position next : ℕ) → number (drop 1 line) ≡ is position (drop next line) → symbolOf h seen line ≡ symbolAt h seen (getD line 0 0) position (drop next line)
+  pub symbol-numbered : (position next : ℕ) → number (drop 1 line) ≡ is position (drop next line)
+      → symbolOf h seen line ≡ symbolAt h seen (getD line 0 0) position (drop next line)
   unfolding symbolOf
-  symbol-numbered position next e = subst (λ (l : List ℕ). symbolOf h seen l ≡ symbolAt h seen (getD line 0 0) position (drop next line)) (sym (drop-cons line 0 0 nonempty)) (rw (e, symbolOf))
+  symbol-numbered position next e = subst (λ (l : List ℕ). symbolOf h seen l ≡ symbolAt h seen (getD line 0 0) position (drop next line))
+      (sym (drop-cons line 0 0 nonempty)) (rw (e, symbolOf))
 
 pub symbol-empty : (h : Header) (seen : List Symbol) (line : List ℕ) → length line ≡ 0 → symbolOf h seen line ≡ none
 unfolding symbolOf
 symbol-empty h seen [] e = refl
 symbol-empty h seen (b ∷ l) e = absurd (omega arith)
 
-module _ (inputs latches : ℕ) (marks : List ℕ) (letter position : ℕ) (line : List ℕ) (next : ℕ) (seen : List Symbol) (says : Named inputs latches marks seen) where
-  pub badly-named : wellNamed (drop next line) ≡ false → symbolAt (counted inputs latches) seen letter position (drop next line) ≡ none
+module _ (h : Header) (marks : List ℕ) (letter position : ℕ) (line : List ℕ) (next : ℕ) (seen : List Symbol) (says : Named h marks seen) where
+  pub badly-named : wellNamed (drop next line) ≡ false → symbolAt h seen letter position (drop next line) ≡ none
   unfolding symbolAt wellNamed
   badly-named e = rw e
 
-  pub position-above : wellNamed (drop next line) ≡ true → positions (counted inputs latches) letter ≤ position → symbolAt (counted inputs latches) seen letter position (drop next line) ≡ none
+  pub position-above : wellNamed (drop next line) ≡ true → positions h letter ≤ position → symbolAt h seen letter position (drop next line) ≡ none
   unfolding symbolAt wellNamed
-  position-above e l = rw (e, le-ltb position (positions (counted inputs latches) letter) l)
+  position-above e l = rw (e, le-ltb position (positions h letter) l)
 
-  module _ (well : wellNamed (drop next line) ≡ true) (below : position < positions (counted inputs latches) letter) where
-    pub named-before : eqb (getD marks (slotOf letter position) 0) 1 ≡ true → symbolAt (counted inputs latches) seen letter position (drop next line) ≡ none
+  module _ (well : wellNamed (drop next line) ≡ true) (below : position < positions h letter) where
+    pub named-before : eqb (getD marks (slotOf h letter position) 0) 1 ≡ true → symbolAt h seen letter position (drop next line) ≡ none
     unfolding symbolAt wellNamed Named
-    named-before e = rw (well, lt-ltb position (positions (counted inputs latches) letter) below, sym (says letter position below) ∙ e)
+    named-before e = rw (well, lt-ltb position (positions h letter) below, sym (says letter position below) ∙ e)
 
-    pub symbol-here : eqb (getD marks (slotOf letter position) 0) 1 ≡ false → (slot : ℕ) (flag : Bool) → slot ≡ slotOf letter position → flag ≡ (eqb letter inputLetter && startsWith prefix (drop (next + 1) line)) → IsSymbol inputs latches (symbolAt (counted inputs latches) seen letter position (drop next line)) slot position flag
+    pub symbol-here : eqb (getD marks (slotOf h letter position) 0) 1 ≡ false → (slot : ℕ) (flag : Bool) → slot ≡ slotOf h letter position
+        → flag ≡ (eqb letter inputLetter && startsWith prefix (drop (next + 1) line))
+        → IsSymbol h (symbolAt h seen letter position (drop next line)) slot position flag
     unfolding symbolAt wellNamed Named names isControllableName
     symbol-here e slot flag s f =
         record {
           symbol = record { letter = letter; position = position; name = run isNameByte (drop 1 (drop next line)) };
-          is = rw (well, lt-ltb position (positions (counted inputs latches) letter) below, sym (says letter position below) ∙ e);
+          is = rw (well, lt-ltb position (positions h letter) below, sym (says letter position below) ∙ e);
           marked = s;
           at = refl;
           below = below;
-          flagged = f ∙ ap₂ (λ (x y : Bool). x && y) (sym (and-true (eqb letter inputLetter)) ∙ ap (λ (x : Bool). eqb letter inputLetter && x) (sym (eq-eqb position position refl))) (sym (starts-run isNameByte prefix (drop 1 (drop next line)) controllable-bytes ∙ ap (startsWith prefix) (drop-drop 1 next line)));
+          flagged = f ∙ ap₂ (λ (x y : Bool). x && y) (sym (and-true (eqb letter inputLetter))
+              ∙ ap (λ (x : Bool). eqb letter inputLetter && x) (sym (eq-eqb position position refl)))
+              (sym (starts-run isNameByte prefix (drop 1 (drop next line)) controllable-bytes ∙ ap (startsWith prefix) (drop-drop 1 next line)));
         }
       where
         and-true : (b : Bool) → (b && true) ≡ b
@@ -86,8 +93,9 @@ module _ (inputs latches : ℕ) (marks : List ℕ) (letter position : ℕ) (line
         and-true false = refl
 
 -- from behind the number to the whole line
-pub symbol-whole : (inputs latches : ℕ) (marks : List ℕ) (letter position : ℕ) (text line : List ℕ) (r : Symboled) → SymbolAt inputs latches marks letter position text r → isComment line ≡ false → ((seen : List Symbol) → symbolOf (counted inputs latches) seen line ≡ symbolAt (counted inputs latches) seen letter position text) → SymbolAs inputs latches marks line r
-symbol-whole inputs latches marks letter position text line Comment h c e = absurd h
-symbol-whole inputs latches marks letter position text line (Of slot at flag) h c e =
-    (c, λ seen says. subst (λ (o : Option Symbol). IsSymbol inputs latches o slot at flag) (sym (e seen)) (h seen says))
-symbol-whole inputs latches marks letter position text line Bad h c e = (c, λ seen says. e seen ∙ h seen says)
+pub symbol-whole : (h : Header) (marks : List ℕ) (letter position : ℕ) (text line : List ℕ) (r : Symboled) → SymbolAt h marks letter position text r
+    → isComment line ≡ false → ((seen : List Symbol) → symbolOf h seen line ≡ symbolAt h seen letter position text) → SymbolAs h marks line r
+symbol-whole h marks letter position text line Comment k c e = absurd k
+symbol-whole h marks letter position text line (Of slot at flag) k c e =
+    (c, λ seen says. subst (λ (o : Option Symbol). IsSymbol h o slot at flag) (sym (e seen)) (k seen says))
+symbol-whole h marks letter position text line Bad k c e = (c, λ seen says. e seen ∙ k seen says)

@@ -1,176 +1,271 @@
--- Sections one after the other, as the code takes them. Assumes nothing.
-use Prim.Native.Nat.{ℕ, _+_, _-_, _<_, _≤_}
+-- The lines before the symbols read one by one: what is left of them equals the whole. Assumes nothing.
+use Prim.Native.Nat.{ℕ, suc, _+_, _*_, _-_, _<_, _≤_}
+use native.Mathlib.Decide.{ℕ-discrete}
+use native.Mathlib.Numerals.{add-one}
 use native.Mathlib.Omega.{arith}
-use mathlib.Core.Bool.{Bool, true, false}
-use mathlib.Core.List.{List, [], _∷_, _++_, map}
+use native.Mathlib.Nat.{sub-zero}
+use mathlib.Core.Bool.{Bool, true, false, cond, _||_}
+use mathlib.Core.List.{List, [], _∷_, _++_, append-nil}
 use mathlib.Core.Path.{_≡_, refl, sym, ap, ap₂, _∙_, subst}
-use lib.ListN.{length, getD, take, drop}
+use lib.Dec.{eqb}
+use lib.ListN.{length, getD, take, drop, set, length-set}
+use lib.Seq.{drop-drop, getD-set-same, getD-set-other}
+use borrow.Author.Tests.{eq-eqb, ne-eqb}
 use Rattle.below.specs.Among.{among, member}
 use Rattle.below.specs.Table.{table}
-use Rattle.below.proofs.laws.Table.{map-table, table-getD}
-use Rattle.circuit.specs.Outcome.{taken, refused, _>>=_, _>>_, refuseIf}
-use Rattle.reader.specs.declared.body.Bodied.{Bodied}
-use Rattle.reader.specs.declared.body.Bodied.the-variants.{Lines, Refused}
-use Rattle.reader.specs.declared.body.Sectioned.{Sectioned}
-use Rattle.reader.specs.declared.body.Sectioned.the-variants.{Done, Refused as SectionRefused}
-use Rattle.reader.specs.BodyRead.{headerWith, firstRead, lastRead, bodyRead, FirstAt, FirstAs, LastAt, LastAs, BodiedAs}
+use Rattle.below.proofs.laws.Among.{member-snoc}
+use Rattle.below.proofs.laws.Table.{table-same}
+use Rattle.circuit.specs.Literal.{variable}
+use Rattle.circuit.specs.Outcome.{taken, refused, _>>=_}
+use Rattle.fields.specs.contracts.Marks.{Marks}
 use Rattle.fields.specs.declared.line.Cursor.{Cursor}
-use Rattle.text.specs.Line.{lines, firstLine, numbersOf}
-use Rattle.lines.specs.LinedAs.{LinedAs}
-use Rattle.lines.specs.declared.body.Lined.the-variants.{Fault}
-use Rattle.fields.specs.Marks.{Marks, unmarked}
-use Rattle.text.specs.Numbers.{notDefined}
-use Rattle.text.specs.Rules.{inputRule, latchRule, outputRule, gateRule, unknown}
-use Rattle.text.specs.Section.{judged, withRow, section, onward, used}
-use Rattle.reader.specs.SectionAs.{beginning, ReadTo, SectionAs, inputRow, latchRow, gateRow}
-use Rattle.fields.specs.UsedAs.{UsedAs}
-use Rattle.reader.specs.UsedLines.{UsedLines}
-use Rattle.fields.proofs.laws.Judged.{unknown-unmarked}
-use Rattle.reader.proofs.laws.SectionLoop.{line-part}
 use Rattle.fields.proofs.laws.Position.{lines-behind}
-use Rattle.fields.proofs.laws.UsedLoop.{used-append}
-use lib.Seq.{drop-drop}
+use Rattle.lines.specs.contracts.Kinds.{ruleOf, formOf, kindAt}
+use Rattle.lines.specs.contracts.LinedAs.{Literals, LinedAs}
+use Rattle.lines.specs.declared.body.Lined.the-variants.{Row, Fault}
+use Rattle.lines.specs.declared.kind.Kind.{Kind}
+use Rattle.lines.specs.declared.kind.Kind.the-variants.{Input, Latch, Output, Gate}
+use Rattle.reader.specs.contracts.AllLines.{ruleAt, lineCount, lined}
+use Rattle.reader.specs.contracts.BodyAs.{BodyRoom, BodyAt, RowRoom, marksAfter}
+use Rattle.reader.specs.contracts.Rows.{cell, rowAt, withNumbers}
+use Rattle.text.specs.Header.{Header}
+use Rattle.text.specs.Line.{lines, firstLine, numbersOf}
+use Rattle.text.specs.Rules.{inputRule, latchRule, outputRule, gateRule}
+use Rattle.text.specs.Section.{Body, judged, withRow}
+use Rattle.text.specs.Stages.{unread}
+use Rattle.reader.proofs.laws.Place.{line-part, line-ends-within}
 
 -- where nothing is marked, nothing is defined
-pub marks-nothing : (marks : List ℕ) → ((i : ℕ) → getD marks i 0 ≡ 0) → Marks marks []
+marks-nothing : (marks : List ℕ) → ((i : ℕ) → getD marks i 0 ≡ 0) → Marks marks []
 unfolding Marks member among
 marks-nothing marks zeros v = rw (zeros v)
 
-module _ (m inputs latches : ℕ) (file : List ℕ) (from : Cursor) where
-  pub first-refused : (number place : ℕ) → section (inputRule m) inputs (from .line) (beginning file (from .at) []) ≡ refused number place → firstRead m inputs latches (from .line) (beginning file (from .at) []) ≡ refused number place
-  unfolding firstRead
-  first-refused number place e = rw e
+-- one more variable is defined and marked
+mark-more : (marks defined : List ℕ) (v : ℕ) → v < length marks → Marks marks defined → Marks (set marks v 1) (defined ++ (v ∷ []))
+unfolding Marks
+mark-more marks defined v h says w = elim (ℕ-discrete w v) [ yes e ↦ same e | no d ↦ other d ] ∙ sym (member-snoc w defined v)
+  where
+    or-true : (b : Bool) → (b || true) ≡ true
+    or-true true = refl
+    or-true false = refl
 
-  pub first-as : (before marks after input latch next : List ℕ) (behind : Cursor) → ReadTo (inputRule m) inputs file from before marks (inputRow input) behind [] → (r : Sectioned) → SectionAs (latchRule m) latches file behind marks after (latchRow latch next) r → FirstAs m inputs latches file from after input latch next r
-  unfolding firstRead onward beginning
-  first-as before marks after input latch next behind w (Done end) h =
-      let v = h (w .defines) (w .says) in
+    or-false : (b : Bool) → (b || false) ≡ b
+    or-false true = refl
+    or-false false = refl
+
+    same : w ≡ v → eqb (getD (set marks v 1) w 0) 1 ≡ (member w defined || eqb w v)
+    same e = rw (e, getD-set-same marks v 1 0 h, eq-eqb v v refl) (sym (or-true (member v defined)))
+
+    other : (w ≡ v → ⊥) → eqb (getD (set marks v 1) w 0) 1 ≡ (member w defined || eqb w v)
+    other d = rw (getD-set-other marks v w 1 0 d, ne-eqb w v d) (says w ∙ sym (or-false (member w defined)))
+
+-- what a line of a kind defines, and its marks
+abbrev news : Kind → ℕ → List ℕ
+news k own = cond (formOf k .defines) (variable own ∷ []) []
+
+news-own : (k : Kind) (M a b c : ℕ) → cond (ruleOf k M .defines) (variable (getD (take (ruleOf k M .count) (a ∷ b ∷ c ∷ [])) 0 0) ∷ []) [] ≡ news k a
+unfolding inputRule latchRule outputRule gateRule
+news-own Input M a b c = refl
+news-own Latch M a b c = refl
+news-own Output M a b c = refl
+news-own Gate M a b c = refl
+
+marks-more : (k : Kind) (marks defined : List ℕ) (own : ℕ) → variable own < length marks → Marks marks defined
+    → Marks (marksAfter k marks own) (defined ++ news k own)
+unfolding marksAfter
+marks-more k marks defined own h says = by (formOf k .defines)
+  where
+    by : (b : Bool) → Marks (cond b (set marks (variable own) 1) marks) (defined ++ cond b (variable own ∷ []) [])
+    by true = mark-more marks defined (variable own) h says
+    by false = subst (Marks marks) (sym (append-nil defined)) says
+
+marks-long : (k : Kind) (marks : List ℕ) (own : ℕ) → length (marksAfter k marks own) ≡ length marks
+unfolding marksAfter
+marks-long k marks own = by (formOf k .defines)
+  where
+    by : (b : Bool) → length (cond b (set marks (variable own) 1) marks) ≡ length marks
+    by true = length-set marks (variable own) 1
+    by false = refl
+
+-- a line's numbers among the rows: its own are those put there, those of the lines before stay
+module _ (rows : List ℕ) (j a b c : ℕ) where
+  rows-long : length (withNumbers rows j a b c) ≡ length rows
+  unfolding withNumbers
+  rows-long = length-set (set (set rows (3 * j + 0) a) (3 * j + 1) b) (3 * j + 2) c ∙ length-set (set rows (3 * j + 0) a) (3 * j + 1) b
+      ∙ length-set rows (3 * j + 0) a
+
+  cell-before : (i which : ℕ) → i < j → which < 3 → cell rows i which ≡ cell (withNumbers rows j a b c) i which
+  unfolding cell withNumbers
+  cell-before i which h w =
+      sym
+      (getD-set-other (set (set rows (3 * j + 0) a) (3 * j + 1) b) (3 * j + 2) (3 * i + which) c 0 (λ e. omega arith)
+      ∙ getD-set-other (set rows (3 * j + 0) a) (3 * j + 1) (3 * i + which) b 0 (λ e. omega arith)
+      ∙ getD-set-other rows (3 * j + 0) (3 * i + which) a 0 (λ e. omega arith))
+
+  module _ (room : 3 * j + 3 ≤ length rows) where
+    first-is : cell (withNumbers rows j a b c) j 0 ≡ a
+    unfolding cell withNumbers
+    first-is =
+        getD-set-other (set (set rows (3 * j + 0) a) (3 * j + 1) b) (3 * j + 2) (3 * j + 0) c 0 (λ e. omega arith)
+        ∙ getD-set-other (set rows (3 * j + 0) a) (3 * j + 1) (3 * j + 0) b 0 (λ e. omega arith)
+        ∙ getD-set-same rows (3 * j + 0) a 0 (omega arith)
+
+    second-is : cell (withNumbers rows j a b c) j 1 ≡ b
+    unfolding cell withNumbers
+    second-is =
+        getD-set-other (set (set rows (3 * j + 0) a) (3 * j + 1) b) (3 * j + 2) (3 * j + 1) c 0 (λ e. omega arith)
+        ∙ getD-set-same (set rows (3 * j + 0) a) (3 * j + 1) b 0 (omega (arith, length-set rows (3 * j + 0) a))
+
+    third-is : cell (withNumbers rows j a b c) j 2 ≡ c
+    unfolding cell withNumbers
+    third-is = getD-set-same (set (set rows (3 * j + 0) a) (3 * j + 1) b) (3 * j + 2) c 0
+        (omega (arith, length-set (set rows (3 * j + 0) a) (3 * j + 1) b, length-set rows (3 * j + 0) a))
+
+-- what the loop knows: j lines are read, the rows hold them, the marks say what they define
+pub record Looping (h : Header) (file : List ℕ) (from : Cursor) (marks₀ rows₀ marks rows : List ℕ) (here : Cursor) (j : ℕ) : Type 0 where
+  pub defined : List ℕ
+  pub says : Marks marks defined
+  pub whole : lined (ruleAt h) 0 (lineCount h) (unread (lines (drop (from .at) file)))
+      ≡ lined (ruleAt h) j (lineCount h - j) (record { rows = table (rowAt h rows) j; defined = defined; rest = lines (drop (here .at) file) })
+  pub count : j ≤ lineCount h
+  pub within : here .at ≤ length file
+  pub line : here .line ≡ 2 + j
+  pub marks-all : length marks ≡ length marks₀
+  pub rows-all : length rows ≡ length rows₀
+
+pub looping-starts : (h : Header) (file : List ℕ) (from : Cursor) (marks rows : List ℕ) → BodyRoom file from h marks rows
+    → Looping h file from marks rows marks rows from 0
+unfolding table
+looping-starts h file from marks rows room =
+    record {
+      defined = [];
+      says = marks-nothing marks (room .marks-none);
+      whole = rw (sub-zero);
+      count = omega arith;
+      within = room .within;
+      line = room .second;
+      marks-all = refl;
+      rows-all = refl;
+    }
+
+module _ (h : Header) (file : List ℕ) (from : Cursor) (marks₀ rows₀ : List ℕ) (room : BodyRoom file from h marks₀ rows₀) (marks rows : List ℕ) (here : Cursor)
+    (j : ℕ)
+    (w : Looping h file from marks₀ rows₀ marks rows here j) where
+  pub looping-ends : lineCount h ≤ j → BodyAt h file from marks rows here
+  unfolding lined
+  looping-ends done =
       record {
-        first = record { inputs = record { rows = table (inputRow input) inputs; defined = w .defines; rest = lines (drop (behind .at) file) }; latches = record { rows = table (latchRow latch next) latches; defined = v .defines; rest = lines (drop (end .at) file) } };
-        whole = rw (w .whole, ← w .line, v .whole);
-        inputs = refl;
-        latches = refl;
-        says = v .says;
-        rest = refl;
-        within = v .within;
-        line = v .line ∙ ap (λ (n : ℕ). n + latches) (w .line);
+        defined = w .defined;
+        says = w .says;
+        whole = w .whole ∙ subst (λ (n : ℕ). lined (ruleAt h) j n body ≡ taken body) (sym none) refl
+            ∙ ap (λ (n : ℕ). taken (record { rows = table (rowAt h rows) n; defined = w .defined; rest = lines (drop (here .at) file) })) all;
+        within = w .within;
+        line = w .line ∙ ap (λ (n : ℕ). 2 + n) all;
       }
-  first-as before marks after input latch next behind w (SectionRefused r) h = rw (w .whole, ← w .line, h (w .defines) (w .says))
-
--- the output's line
-module _ (m gates : ℕ) (file : List ℕ) (from : Cursor) (end : ℕ) (ends : end ≡ from .at + length (firstLine (drop (from .at) file))) (before : List ℕ) where
-  output-line : (defined : List ℕ) → section (outputRule m) 1 (from .line) (beginning file (from .at) defined) ≡ (judged (outputRule m) defined (from .line) (numbersOf (outputRule m .count) (take (end - from .at) (drop (from .at) file))) >>= λ fs. taken (withRow (outputRule m) (beginning file (from .at) defined) fs))
-  unfolding section beginning firstLine
-  output-line defined = ap (λ (l : List ℕ). judged (outputRule m) defined (from .line) (numbersOf (outputRule m .count) l) >>= λ fs. taken (withRow (outputRule m) (beginning file (from .at) defined) fs)) (sym (line-part file (from .at) end ends))
-
-  pub output-refused : (number : ℕ) → LinedAs m (outputRule m) before (take (end - from .at) (drop (from .at) file)) (Fault number) → (after gate left right : List ℕ) → LastAs m gates file from before after gate left right (Refused (record { number = number; place = from .line }))
-  unfolding lastRead
-  output-refused number e after gate left right defined says = rw (output-line defined, e defined (from .line) says)
-
-  -- the output taken: the gates go on from behind its line
-  output-taken : (literal : ℕ) → ((defined : List ℕ) (place : ℕ) → Marks before defined → judged (outputRule m) defined place (numbersOf (outputRule m .count) (take (end - from .at) (drop (from .at) file))) ≡ taken (literal ∷ [])) → (defined : List ℕ) → Marks before defined → section (outputRule m) 1 (from .line) (beginning file (from .at) defined) ≡ taken (record { rows = (literal ∷ []) ∷ []; defined = defined; rest = lines (drop end file) })
-  unfolding withRow beginning outputRule
-  output-taken literal e defined says = output-line defined ∙ rw (e defined (from .line) says) (ap taken body)
     where
-      append-nil : (l : List ℕ) → l ++ [] ≡ l
-      append-nil [] = refl
-      append-nil (x ∷ l) = ap {B = List ℕ} (λ k. x ∷ k) (append-nil l)
+      body : Body
+      body = record { rows = table (rowAt h rows) j; defined = w .defined; rest = lines (drop (here .at) file) }
 
-      rest : drop 1 (lines (drop (from .at) file)) ≡ lines (drop end file)
-      rest = lines-behind (drop (from .at) file) ∙ ap lines (drop-drop (length (firstLine (drop (from .at) file))) (from .at) file ∙ ap (λ (k : ℕ). drop k file) (sym ends))
+      none : lineCount h - j ≡ 0
+      none = omega arith
 
-      body : withRow (outputRule m) (beginning file (from .at) defined) (literal ∷ []) ≡ record { rows = (literal ∷ []) ∷ []; defined = defined; rest = lines (drop end file) }
-      body = λ x. record { rows = (literal ∷ []) ∷ []; defined = append-nil defined x; rest = rest x }
+      all : j ≡ lineCount h
+      all = omega (arith, w .count)
 
-  module _ (literal : ℕ) (fine : (defined : List ℕ) (place : ℕ) → Marks before defined → judged (outputRule m) defined place (numbersOf (outputRule m .count) (take (end - from .at) (drop (from .at) file))) ≡ taken (literal ∷ [])) (after gate left right : List ℕ) where
-    pub gates-refused : (number place : ℕ) → ((defined : List ℕ) → Marks before defined → section (gateRule m) gates (from .line + 1) (beginning file end defined) ≡ refused number place) → (defined : List ℕ) → Marks before defined → lastRead m gates (from .line) (beginning file (from .at) defined) ≡ refused number place
-    unfolding lastRead onward beginning
-    gates-refused number place e defined says = rw (output-taken literal fine defined says, e defined says)
+  module _ (more : j < lineCount h) (end : ℕ) (ends : end ≡ here .at + length (firstLine (drop (here .at) file))) (k : Kind) (is : k ≡ kindAt h j) where
+    abbrev body : Body
+    body = record { rows = table (rowAt h rows) j; defined = w .defined; rest = lines (drop (here .at) file) }
 
-    pub gates-taken : (behind : Cursor) → ((defined : List ℕ) → Marks before defined → ReadTo (gateRule m) gates file (record { at = end; line = from .line + 1 }) before after (gateRow gate left right) behind defined) → (defined : List ℕ) → Marks before defined → LastAt m gates file from after gate left right behind literal defined
-    unfolding lastRead onward beginning
-    gates-taken behind h defined says =
-        let v = h defined says in
-        record {
-          last = record { output = record { rows = (literal ∷ []) ∷ []; defined = defined; rest = lines (drop end file) }; gates = record { rows = table (gateRow gate left right) gates; defined = v .defines; rest = lines (drop (behind .at) file) } };
-          whole = rw (output-taken literal fine defined says, v .whole);
-          output = refl;
-          gates = refl;
-          says = v .says;
-          rest = refl;
-          within = v .within;
-          line = v .line;
-        }
+    abbrev line : List ℕ
+    line = take (end - here .at) (drop (here .at) file)
 
--- what latches and output use
-module _ (marks next : List ℕ) (inputs : ℕ) (behind : Cursor) (literal : ℕ) where
-  pub next-unknown : (k : ℕ) → UsedAs marks next k → k < length next → UsedLines marks next inputs behind literal (Refused (record { number = notDefined; place = 2 + inputs + k }))
-  next-unknown k w h defined says = used-append defined (2 + inputs) next (literal ∷ []) ∙ rw (w .unknown h defined (2 + inputs) says)
+    -- the line at hand decides
+    next : lined (ruleAt h) 0 (lineCount h) (unread (lines (drop (from .at) file)))
+        ≡ (judged (ruleAt h j) (w .defined) (2 + j) (numbersOf (ruleAt h j .count) line) >>= λ fs. lined (ruleAt h) (suc j) (lineCount h - suc j)
+        (withRow (ruleAt h j) body fs))
+    unfolding lined firstLine
+    next =
+        w .whole
+        ∙ ap (λ (n : ℕ). lined (ruleAt h) j n body) left
+        ∙ ap (λ (l : List ℕ). judged (ruleAt h j) (w .defined) (2 + j) (numbersOf (ruleAt h j .count) l) >>= λ fs. lined (ruleAt h) (suc j)
+        (lineCount h - suc j) (withRow (ruleAt h j) body fs)) (sym (line-part file (here .at) end ends))
+      where
+        left : lineCount h - j ≡ suc (lineCount h - suc j)
+        left = omega arith
 
-  module _ (k : ℕ) (w : UsedAs marks next k) (all : length next ≤ k) where
-    beyond : (defined : List ℕ) → Marks marks defined → used defined (2 + inputs) (next ++ (literal ∷ [])) ≡ (refuseIf (unmarked marks literal) notDefined (2 + inputs + length next) >> taken tt)
-    unfolding used
-    beyond defined says =
-        used-append defined (2 + inputs) next (literal ∷ [])
-        ∙ rw (w .known (omega (arith, w .within)) defined (2 + inputs) says)
-        (ap (λ (b : Bool). refuseIf b notDefined (2 + inputs + length next) >> taken tt) (unknown-unmarked 0 marks defined says literal))
+    pub looping-refuses : (number : ℕ) → LinedAs (h .largest) (ruleOf k (h .largest)) marks line (Fault number)
+        → lined (ruleAt h) 0 (lineCount h) (unread (lines (drop (from .at) file))) ≡ refused number (here .line)
+    looping-refuses number faulty =
+        next
+        ∙ ap (λ o. o >>= λ fs. lined (ruleAt h) (suc j) (lineCount h - suc j) (withRow (ruleAt h j) body fs))
+        (subst (λ (q : Kind). judged (ruleOf q (h .largest)) (w .defined) (2 + j) (numbersOf (ruleOf q (h .largest) .count) line) ≡ refused number (2 + j)) is
+        (faulty (w .defined) (2 + j) (w .says)))
+        ∙ ap (refused number) (sym (w .line))
 
-    pub output-unknown : unmarked marks literal ≡ true → UsedLines marks next inputs behind literal (Refused (record { number = notDefined; place = 2 + inputs + length next }))
-    unfolding refuseIf
-    output-unknown e defined says = beyond defined says ∙ rw e
+    module _ (a b c : ℕ) (fine : LinedAs (h .largest) (ruleOf k (h .largest)) marks line (Row a b c)) where
+      literals : Literals (h .largest) (ruleOf k (h .largest) .count) a b c
+      literals = fine .1
 
-    pub output-known : unmarked marks literal ≡ false → UsedLines marks next inputs behind literal (Lines behind literal)
-    unfolding refuseIf
-    output-known e = (refl, refl, λ defined says. beyond defined says ∙ rw e)
+      pub row-room : RowRoom rows j a b c
+      row-room =
+          record {
+            inside = omega (arith, room .rows-all, w .rows-all);
+            first = omega (arith, literals .first, room .marks-all, room .marks-few);
+            second = omega (arith, literals .second, room .marks-all, room .marks-few);
+            third = omega (arith, literals .third, room .marks-all, room .marks-few);
+          }
 
--- all lines before the symbols
-module _ (m inputs latches gates : ℕ) (file : List ℕ) (from : Cursor) (second : from .line ≡ 2) where
-  pub body-refused : (number place : ℕ) → firstRead m inputs latches (from .line) (beginning file (from .at) []) ≡ refused number place → bodyRead (headerWith m inputs latches gates) (beginning file (from .at) []) ≡ refused number place
-  unfolding bodyRead headerWith
-  body-refused number place e = rw (subst (λ (n : ℕ). firstRead m inputs latches n (beginning file (from .at) []) ≡ refused number place) second e)
+      marked : variable a < length marks
+      unfolding variable
+      marked = omega (arith, literals .first, room .marks-all, w .marks-all)
 
-  module _ (marks input latch next : List ℕ) (middle : Cursor) (w : FirstAt m inputs latches file from marks input latch next middle) where
-    -- what follows begins behind the latches
-    onward-is : onward (w .first .latches) ≡ beginning file (middle .at) (w .first .latches .defined)
-    unfolding onward beginning
-    onward-is = λ x. record { rows = []; defined = w .first .latches .defined; rest = w .rest x }
+      rows′ : List ℕ
+      rows′ = withNumbers rows j a b c
 
-    -- line 2, and so many lines behind it
-    middle-line : middle .line ≡ 2 + inputs + latches
-    middle-line = w .line ∙ ap (λ (n : ℕ). n + inputs + latches) second
+      fs : List ℕ
+      fs = take (ruleAt h j .count) (a ∷ b ∷ c ∷ [])
 
-    first-whole : firstRead m inputs latches 2 (beginning file (from .at) []) ≡ taken (w .first)
-    first-whole = subst (λ (n : ℕ). firstRead m inputs latches n (beginning file (from .at) []) ≡ taken (w .first)) second (w .whole)
+      taken-line : judged (ruleAt h j) (w .defined) (2 + j) (numbersOf (ruleAt h j .count) line) ≡ taken fs
+      unfolding fs
+      taken-line = subst (λ (q : Kind). judged (ruleOf q (h .largest)) (w .defined) (2 + j) (numbersOf (ruleOf q (h .largest) .count) line) ≡ taken
+          (take (ruleOf q (h .largest) .count) (a ∷ b ∷ c ∷ []))) is (fine .0 (w .defined) (2 + j) (w .says))
 
-    pub body-refused-last : (number place : ℕ) → ((defined : List ℕ) → Marks marks defined → lastRead m gates (middle .line) (beginning file (middle .at) defined) ≡ refused number place) → bodyRead (headerWith m inputs latches gates) (beginning file (from .at) []) ≡ refused number place
-    unfolding bodyRead headerWith
-    body-refused-last number place e = rw (first-whole, onward-is, subst (λ (n : ℕ). lastRead m gates n (beginning file (middle .at) (w .first .latches .defined)) ≡ refused number place) middle-line (e (w .first .latches .defined) (w .says)))
+      rest : drop 1 (lines (drop (here .at) file)) ≡ lines (drop end file)
+      rest = lines-behind (drop (here .at) file) ∙ ap lines (drop-drop (length (firstLine (drop (here .at) file))) (here .at) file
+          ∙ ap (λ (m : ℕ). drop m file) (sym ends))
 
-    module _ (after gate left right : List ℕ) (behind : Cursor) (literal : ℕ) (v : (defined : List ℕ) → Marks marks defined → LastAt m gates file middle after gate left right behind literal defined) (nexts : length next ≡ latches) where
-      the-last : LastAt m gates file middle after gate left right behind literal (w .first .latches .defined)
-      the-last = v (w .first .latches .defined) (w .says)
+      all-rows : table (rowAt h rows) j ++ (fs ∷ []) ≡ table (rowAt h rows′) (suc j)
+      unfolding table rowAt rows′ fs
+      all-rows =
+          ap₂ {C = List (List ℕ)} (λ l x. l ++ (x ∷ []))
+          (table-same (rowAt h rows) (rowAt h rows′) j (λ i l. three (ruleAt h i .count) (cell-before rows j a b c i 0 l (omega arith))
+          (cell-before rows j a b c i 1 l (omega arith)) (cell-before rows j a b c i 2 l (omega arith))))
+          (three (ruleAt h j .count) (sym (first-is rows j a b c (row-room .inside))) (sym (second-is rows j a b c (row-room .inside)))
+          (sym (third-is rows j a b c (row-room .inside))))
+        where
+          three : (n : ℕ) {x y z x′ y′ z′ : ℕ} → x ≡ x′ → y ≡ y′ → z ≡ z′ → take n (x ∷ y ∷ z ∷ []) ≡ take n (x′ ∷ y′ ∷ z′ ∷ [])
+          three n p q r = λ x. take n (p x ∷ q x ∷ r x ∷ [])
 
-      uses : map (λ fs. getD fs 1 0) (w .first .latches .rows) ++ map (λ fs. getD fs 0 0) (the-last .last .output .rows) ≡ next ++ (literal ∷ [])
-      unfolding latchRow headerWith
-      uses = ap₂ {C = List ℕ} (λ l k. l ++ k) (ap (map (λ fs. getD fs 1 0)) (w .latches) ∙ map-table (λ fs. getD fs 1 0) (latchRow latch next) latches ∙ ap (table (λ i. getD next i 0)) (sym nexts) ∙ table-getD next 0) (ap (map (λ fs. getD fs 0 0)) (the-last .output))
+      new : cond (ruleAt h j .defines) (variable (getD fs 0 0) ∷ []) [] ≡ news k a
+      unfolding fs
+      new = subst (λ (q : Kind). cond (ruleOf q (h .largest) .defines) (variable (getD (take (ruleOf q (h .largest) .count) (a ∷ b ∷ c ∷ [])) 0 0) ∷ [])
+          [] ≡ news k a) is (news-own k (h .largest) a b c)
 
-      so-far : bodyRead (headerWith m inputs latches gates) (beginning file (from .at) []) ≡ (used (the-last .last .gates .defined) (2 + inputs) (next ++ (literal ∷ [])) >> taken (record { first = w .first; last = the-last .last }))
-      unfolding bodyRead headerWith the-last
-      so-far = rw (first-whole, onward-is, subst (λ (n : ℕ). lastRead m gates n (beginning file (middle .at) (w .first .latches .defined)) ≡ taken (the-last .last)) middle-line (the-last .whole)) (ap (λ (l : List ℕ). used (the-last .last .gates .defined) (2 + inputs) l >> taken (record { first = w .first; last = the-last .last })) uses)
-
-      pub body-as : (r : Bodied) → UsedLines after next inputs behind literal r → BodiedAs (headerWith m inputs latches gates) file from input latch next gate left right r
-      unfolding headerWith the-last
-      body-as (Lines end output) h =
-          rw (h .0, h .1)
+      pub looping-goes-on : (marks″ rows″ : List ℕ) → marks″ ≡ marksAfter k marks a → rows″ ≡ withNumbers rows j a b c
+          → Looping h file from marks₀ rows₀ marks″ rows″ (record { at = end; line = here .line + 1 }) (j + 1)
+      unfolding withRow rows′
+      looping-goes-on marks″ rows″ m f =
+          rw (add-one j, m, f)
           (record {
-            bodies = record { first = w .first; last = the-last .last };
-            whole = so-far ∙ rw (h .2 (the-last .last .gates .defined) (the-last .says));
-            inputs = w .inputs;
-            latches = w .latches;
-            output = the-last .output;
-            gates = the-last .gates;
-            rest = the-last .rest;
-            within = the-last .within;
-            line = omega (arith, the-last .line, middle-line);
+            defined = w .defined ++ news k a;
+            says = marks-more k marks (w .defined) a marked (w .says);
+            whole =
+                next
+                ∙ ap (λ o. o >>= λ gs. lined (ruleAt h) (suc j) (lineCount h - suc j) (withRow (ruleAt h j) body gs)) taken-line
+                ∙ ap {B = _} (lined (ruleAt h) (suc j) (lineCount h - suc j)) (λ x. record { rows = all-rows x; defined = w .defined ++ new x; rest = rest x });
+            count = more;
+            within = line-ends-within file (here .at) end ends (w .within);
+            line = omega (arith, w .line);
+            marks-all = marks-long k marks a ∙ w .marks-all;
+            rows-all = rows-long rows j a b c ∙ w .rows-all;
           })
-      body-as (Refused r) h = so-far ∙ rw (h (the-last .last .gates .defined) (the-last .says))

@@ -1,93 +1,53 @@
--- From what the code holds of a file to the circuit that the file means, as it is stored. Assumes nothing.
-use Prim.Native.Nat.{ℕ, zero, suc, _+_, _-_, min, _<_, _≤_}
-use native.Mathlib.Decide.{decLt}
+-- From rows and flags to the circuit that the file means, as it is stored. Assumes nothing.
+use Prim.Native.Nat.{ℕ, zero, suc, _+_, _*_, _<_}
 use native.Mathlib.Omega.{arith}
 use mathlib.Core.Bool.{Bool, true, false, cond, not, _||_}
 use mathlib.Core.List.{List, [], _∷_, _++_, map}
-use mathlib.Core.Path.{_≡_, refl, sym, ap, ap₂, _∙_, subst}
+use mathlib.Core.Path.{_≡_, refl, sym, ap, ap₂, _∙_}
 use lib.Dec.{eqb, ltb}
-use lib.ListN.{length, getD, take, drop, replicate, length-replicate, getD-replicate, length-take, length-drop, List·getD-eq-default}
-use lib.Seq.{take-all, take-append-add, ext-getD, getD-drop, getD-take}
+use lib.ListN.{length, getD, take, drop, replicate, length-replicate, length-take, length-append}
+use lib.Seq.{take-all, getD-take}
 use Rattle.below.specs.Table.{table}
 use Rattle.below.proofs.laws.Filled.{replicate-table}
-use Rattle.below.proofs.laws.Table.{length-table, getD-table, map-table, table-getD, table-same}
+use Rattle.below.proofs.laws.Table.{length-table, getD-table, map-table, table-getD}
 use Rattle.bits.specs.Bit.{oneIf}
 use Rattle.circuit.specs.Answer.{readOutcome, circuitOr, ReadAs}
 use Rattle.circuit.specs.Circuit.{Circuit, Input, Latch, Gate, inputsThat, uncontrollableCount, controllableCount, tooMany}
-use Rattle.circuit.specs.declared.Circuit.{Circuit as Value}
+use Rattle.circuit.specs.Limits.{base}
+use Rattle.circuit.specs.Outcome.{Outcome, taken, refused, refuseIf}
+use Rattle.circuit.specs.Stored.{padded, stored, emptyCircuit, inputsOf, literalOf}
 use Rattle.circuit.specs.declared.FileRead.{FileRead}
 use Rattle.circuit.specs.declared.Read.the-variants.{Taken, Refused}
-use Rattle.circuit.specs.Limits.{base}
-use Rattle.circuit.specs.Outcome.{Outcome, taken, refused, _>>=_, _>>_, refuseIf}
-use Rattle.circuit.specs.Stored.{padded, stored, emptyCircuit, inputsOf, literalOf}
-use Rattle.reader.specs.BodyRead.{headerWith}
-use Rattle.reader.specs.CountedAs.{withInputs, CountedAs}
 use Rattle.fields.specs.declared.line.Cursor.{Cursor}
+use Rattle.reader.specs.contracts.CountedAs.{withInputs, CountedAs}
+use Rattle.reader.specs.contracts.LinesAs.{circuitOfLines, LinesRoom}
+use Rattle.reader.specs.contracts.Rows.{cell, columnOf, rowsFile}
+use Rattle.reader.specs.contracts.SymbolsAs.{Flags}
+use Rattle.reader.specs.contracts.TextAs.{TextRoom}
+use Rattle.reader.specs.contracts.ValueOf.{Few, valueOf}
+use Rattle.reader.proofs.laws.ColumnLoop.{padded-is, zeros-at}
+use Rattle.text.specs.Header.{Header}
 use Rattle.text.specs.Line.{lines}
-use Rattle.reader.specs.LinesAs.{circuitOfLines}
 use Rattle.text.specs.Numbers.{tooManyInputs}
 use Rattle.text.specs.Read.{linesRead}
-use Rattle.text.specs.Symbol.{isControllable}
-use Rattle.reader.specs.SymbolsAs.{Flags}
-use Rattle.reader.specs.TextAt.{latchAt, gateAt, TextAt}
-use Rattle.text.specs.TextFile.{circuitOf}
-
-abbrev zeroes : ℕ → List ℕ
-zeroes n = table (λ i. 0) n
+use Rattle.text.specs.Symbol.{Symbols, isControllable}
+use Rattle.text.specs.TextFile.{TextFile, circuitOf}
 
 -- nothing padded is all zeros
 pub padded-none : (n : ℕ) → padded n [] ≡ table (λ i. 0) n
 unfolding padded
 padded-none n = take-all n (replicate n 0) (omega (arith, length-replicate {A = ℕ} n 0)) ∙ replicate-table n 0
 
--- a part stored at the front of zeros is padded
-pub padded-part : (n k : ℕ) (l : List ℕ) → length l ≡ k → k ≤ n → l ++ drop k (table (λ i. 0) n) ≡ padded n l
-unfolding padded
-padded-part n k l e h =
-    ap {B = List ℕ} (λ t. l ++ t) (rest ∙ sym (replicate-table (n - k) 0) ∙ sym front)
-    ∙ sym (subst (λ (m : ℕ). take m (l ++ replicate n 0) ≡ l ++ take (n - k) (replicate n 0)) whole (take-append-add l (replicate n 0) (n - k)))
-  where
-    whole : length l + (n - k) ≡ n
-    whole = omega arith
-
-    zeros : (m i : ℕ) → i < m → getD (zeroes m) i 0 ≡ zero
-    zeros m i l′ = getD-table (λ j. zero) m i 0 l′
-
-    rest : drop k (zeroes n) ≡ zeroes (n - k)
-    rest =
-        ext-getD 0 (drop k (zeroes n)) (zeroes (n - k))
-        (length-drop k (zeroes n) ∙ ap (λ (m : ℕ). m - k) (length-table (λ i. zero) n) ∙ sym (length-table (λ i. zero) (n - k)))
-        (λ i j. getD-drop k (zeroes n) i 0 ∙ zeros n (k + i) (omega (arith, length-drop k (zeroes n), length-table (λ i. zero) n)) ∙ sym (zeros (n - k) i (omega (arith, length-drop k (zeroes n), length-table (λ i. zero) n))))
-
-    front : take (n - k) (replicate n zero) ≡ replicate (n - k) zero
-    front =
-        ext-getD 0 (take (n - k) (replicate n zero)) (replicate (n - k) zero)
-        (length-take (n - k) (replicate n zero) ∙ shorter)
-        (λ i j. getD-take (n - k) (replicate n zero) i 0 (below i j) ∙ getD-replicate n i 0 0 (omega (arith, below i j)) ∙ sym (getD-replicate (n - k) i 0 0 (below i j)))
-      where
-        shorter : min (n - k) (length (replicate n zero)) ≡ length (replicate (n - k) zero)
-        shorter = omega (arith, length-replicate {A = ℕ} n 0, length-replicate {A = ℕ} (n - k) 0)
-
-        below : (i : ℕ) → i < length (take (n - k) (replicate n zero)) → i < n - k
-        below i j = omega (arith, length-take (n - k) (replicate {A = ℕ} n 0))
-
 -- too many inputs of a sort, by the counts of both
-pub too-many-counted : (input flags : List ℕ) (u k : ℕ) (b : Bool) → u ≡ inputsThat (λ (i : Input). not (i .controllable)) (inputsOf input flags) → k ≡ inputsThat (λ (i : Input). i .controllable) (inputsOf input flags) → b ≡ (ltb (base .uncontrollable) u || ltb (base .controllable) k) → b ≡ tooMany base (withInputs (inputsOf input flags))
+pub too-many-counted : (input flags : List ℕ) (u k : ℕ) (b : Bool) → u ≡ inputsThat (λ (i : Input). not (i .controllable)) (inputsOf input flags)
+    → k ≡ inputsThat (λ (i : Input). i .controllable) (inputsOf input flags) → b ≡ (ltb (base .uncontrollable) u || ltb (base .controllable) k)
+    → b ≡ tooMany base (withInputs (inputsOf input flags))
 unfolding tooMany withInputs controllableCount uncontrollableCount
 too-many-counted input flags u k b us ks e = e ∙ ap₂ (λ (m n : ℕ). ltb (base .uncontrollable) m || ltb (base .controllable) n) us ks
 
--- zeros cut to a length
-pub zeros-cut : (n k : ℕ) (l : List ℕ) → l ≡ zeroes n → k ≤ n → length (take k l) ≡ k
-zeros-cut n k l e h = length-take k l ∙ shorter
-  where
-    shorter : min k (length l) ≡ k
-    shorter = omega (arith, ap length e, length-table (λ i. zero) n)
-
-pub zeros-cut-at : (n k : ℕ) (l : List ℕ) → l ≡ zeroes n → k ≤ n → (i : ℕ) → getD (take k l) i 0 ≡ 0
-zeros-cut-at n k l e h i = elim (decLt i k) [ yes a ↦ getD-take k l i 0 a ∙ ap (λ (m : List ℕ). getD m i 0) e ∙ getD-table (λ j. zero) n i 0 (omega arith) | no a ↦ List·getD-eq-default (take k l) 0 {n = i} (omega (arith, zeros-cut n k l e h)) ]
-
 -- what a reader answers, from the outcome
-pub read-refused : (o : Outcome Circuit) (number place : ℕ) (r : FileRead) → o ≡ refused number place → r ≡ record { answer = Refused (record { number = number; place = place }); circuit = stored emptyCircuit } → ReadAs o r
+pub read-refused : (o : Outcome Circuit) (number place : ℕ) (r : FileRead) → o ≡ refused number place
+    → r ≡ record { answer = Refused (record { number = number; place = place }); circuit = stored emptyCircuit } → ReadAs o r
 unfolding readOutcome circuitOr
 read-refused o number place r e f = rw (e, f) (record { answer = refl; circuit = refl })
 
@@ -101,7 +61,9 @@ unfolding inputsThat
 inputs-that-snoc p [] i = refl
 inputs-that-snoc p (j ∷ is) i = by (p j) (p i) (inputs-that-snoc p is i)
   where
-    by : (a b : Bool) → inputsThat p (is ++ (i ∷ [])) ≡ cond b (suc (inputsThat p is)) (inputsThat p is) → cond a (suc (inputsThat p (is ++ (i ∷ [])))) (inputsThat p (is ++ (i ∷ []))) ≡ cond b (suc (cond a (suc (inputsThat p is)) (inputsThat p is))) (cond a (suc (inputsThat p is)) (inputsThat p is))
+    by : (a b : Bool) → inputsThat p (is ++ (i ∷ [])) ≡ cond b (suc (inputsThat p is)) (inputsThat p is)
+        → cond a (suc (inputsThat p (is ++ (i ∷ [])))) (inputsThat p (is ++ (i ∷ []))) ≡ cond b (suc (cond a (suc (inputsThat p is)) (inputsThat p is)))
+        (cond a (suc (inputsThat p is)) (inputsThat p is))
     by true true e = ap suc e
     by true false e = ap suc e
     by false true e = e
@@ -110,78 +72,162 @@ inputs-that-snoc p (j ∷ is) i = by (p j) (p i) (inputs-that-snoc p is i)
 inputs-that-same : (p q : Input → Bool) (f g : ℕ → Input) (n : ℕ) → ((i : ℕ) → i < n → p (f i) ≡ q (g i)) → inputsThat p (table f n) ≡ inputsThat q (table g n)
 unfolding table inputsThat
 inputs-that-same p q f g zero e = refl
-inputs-that-same p q f g (suc n) e = inputs-that-snoc p (table f n) (f n) ∙ ap₂ (λ (b : Bool) (m : ℕ). cond b (suc m) m) (e n (omega arith)) (inputs-that-same p q f g n (λ i h. e i (omega arith))) ∙ sym (inputs-that-snoc q (table g n) (g n))
+inputs-that-same p q f g (suc n) e = inputs-that-snoc p (table f n) (f n) ∙ ap₂ (λ (b : Bool) (m : ℕ). cond b (suc m) m) (e n (omega arith))
+    (inputs-that-same p q f g n (λ i h. e i (omega arith))) ∙ sym (inputs-that-snoc q (table g n) (g n))
 
 flag-is : (b : Bool) → not (eqb (oneIf b) 0) ≡ b
 unfolding oneIf
 flag-is true = refl
 flag-is false = refl
 
--- the file that was read, as the code holds it, and the circuit that it means
-module _ (m inputs latches gates : ℕ) (bytes : List ℕ) (from : Cursor) (input flags latch next gate left right : List ℕ) (behind : Cursor) (literal : ℕ)
-    (w : TextAt (headerWith m inputs latches gates) bytes from input flags latch next gate left right behind literal)
-    (inputs-long : length input ≡ inputs) (flags-long : length flags ≡ inputs) where
-  flags-are : (i : ℕ) → i < inputs → not (eqb (getD flags i 0) 0) ≡ isControllable (w .file .symbols) i
-  unfolding headerWith Flags
-  flags-are i h = ap (λ (n : ℕ). not (eqb n 0)) (w .flagged i h) ∙ flag-is (isControllable (w .file .symbols) i)
+-- the room that a circuit's limits give
+pub zeros-long : (n : ℕ) (l : List ℕ) → l ≡ table (λ i. 0) n → length l ≡ n
+zeros-long n l e = ap length e ∙ length-table {A = ℕ} (λ i. 0) n
 
-  pub too-many-same : tooMany base (withInputs (inputsOf input flags)) ≡ tooMany base (circuitOf (w .file))
-  unfolding tooMany withInputs uncontrollableCount controllableCount inputsOf circuitOf
-  too-many-same = ap₂ (λ (u c : ℕ). ltb (base .uncontrollable) u || ltb (base .controllable) c) (count (λ i. not (i .controllable)) (λ i h. ap not (flags-are i h))) (count (λ i. i .controllable) flags-are)
-    where
-      size : length (w .file .inputs) ≡ inputs
-      size = ap length (w .inputs) ∙ inputs-long
+zeros-none : (n : ℕ) (l : List ℕ) → l ≡ table (λ i. 0) n → (i : ℕ) → getD l i 0 ≡ 0
+zeros-none n l e i = ap (λ (k : List ℕ). getD k i 0) e ∙ zeros-at n i
 
-      count : (p : Input → Bool) → ((i : ℕ) → i < inputs → p (record { own = literalOf (getD input i 0); controllable = not (eqb (getD flags i 0) 0) }) ≡ p (record { own = getD (w .file .inputs) i 0; controllable = isControllable (w .file .symbols) i })) → inputsThat p (table (λ i. record { own = literalOf (getD input i 0); controllable = not (eqb (getD flags i 0) 0) }) (length input)) ≡ inputsThat p (table (λ i. record { own = getD (w .file .inputs) i 0; controllable = isControllable (w .file .symbols) i }) (length (w .file .inputs)))
-      count p e = rw (size, inputs-long) (inputs-that-same p p _ _ inputs e)
+pub text-room : (bytes : List ℕ) (from : Cursor) (h : Header) (marks rows names flags : List ℕ) → LinesRoom bytes from h
+    → marks ≡ table (λ i. 0) (base .variable + 1)
+    → rows ≡ table (λ i. 0) (3 * (base .variable + 1)) → names ≡ table (λ i. 0) (base .inputs + base .latches + base .outputs)
+    → flags ≡ table (λ i. 0) (base .inputs)
+    → TextRoom bytes from h marks rows names flags
+text-room bytes from h marks rows names flags p m r n f =
+    let few = p .few in
+    let m-long = zeros-long (base .variable + 1) marks m in
+    let r-long = zeros-long (3 * (base .variable + 1)) rows r in
+    let n-long = zeros-long (base .inputs + base .latches + base .outputs) names n in
+    let f-long = zeros-long (base .inputs) flags f in
+    record {
+      body =
+          record {
+            within = p .within;
+            second = p .second;
+            places = omega (arith, few .largest, few .gates);
+            marks-all = omega (arith, few .largest, m-long);
+            marks-few = omega (arith, m-long);
+            marks-none = zeros-none (base .variable + 1) marks m;
+            rows-all = omega (arith, few .largest, few .gates, r-long);
+          };
+      places = omega (arith, few .largest, few .gates, p .file);
+      names-all = omega (arith, few .inputs, few .latches, few .outputs, n-long);
+      names-none = zeros-none (base .inputs + base .latches + base .outputs) names n;
+      flags-all = omega (arith, few .inputs, f-long);
+      flags-none = zeros-none (base .inputs) flags f;
+    }
 
-  -- each array is the circuit's column, padded
-  input-column : map (λ (i : Input). i .own) (circuitOf (w .file) .inputs) ≡ input
-  unfolding circuitOf
-  input-column = map-table (λ (i : Input). i .own) (λ i. record { own = getD (w .file .inputs) i 0; controllable = isControllable (w .file .symbols) i }) (length (w .file .inputs)) ∙ table-getD (w .file .inputs) 0 ∙ w .inputs
+-- the circuit that rows and flags make is the one that the file means
+module _ (h : Header) (rows flags : List ℕ) (behind : Symbols) (few : Few h) (long : length flags ≡ base .inputs)
+    (flagged : Flags (h .inputs) flags (behind .symbols)) where
+  abbrev file : TextFile
+  file = rowsFile h rows behind
 
-  flag-column : map (λ (i : Input). oneIf (i .controllable)) (circuitOf (w .file) .inputs) ≡ flags
-  unfolding circuitOf headerWith Flags
+  inputs-long : length (columnOf rows 0 (h .inputs) 0) ≡ h .inputs
+  unfolding columnOf
+  inputs-long = length-table (λ i. cell rows (0 + i) 0) (h .inputs)
+
+  -- the inputs' own literals, and their flags
+  input-column : map (λ (i : Input). i .own) (circuitOf file .inputs) ≡ columnOf rows 0 (h .inputs) 0
+  unfolding circuitOf rowsFile
+  input-column =
+      map-table (λ (i : Input). i .own) (λ i. record { own = getD (columnOf rows 0 (h .inputs) 0) i 0; controllable = isControllable (behind .symbols) i })
+      (length (columnOf rows 0 (h .inputs) 0))
+      ∙ table-getD (columnOf rows 0 (h .inputs) 0) 0
+
+  flag-column : map (λ (i : Input). oneIf (i .controllable)) (circuitOf file .inputs) ≡ table (λ i. oneIf (isControllable (behind .symbols) i)) (h .inputs)
+  unfolding circuitOf rowsFile
   flag-column =
-      map-table (λ (i : Input). oneIf (i .controllable)) (λ i. record { own = getD (w .file .inputs) i 0; controllable = isControllable (w .file .symbols) i }) (length (w .file .inputs))
-      ∙ ap (table (λ i. oneIf (isControllable (w .file .symbols) i))) (ap length (w .inputs) ∙ inputs-long)
-      ∙ table-same (λ i. oneIf (isControllable (w .file .symbols) i)) (λ i. getD flags i 0) inputs (λ i h. sym (w .flagged i h))
-      ∙ ap (table (λ i. getD flags i 0)) (sym flags-long)
-      ∙ table-getD flags 0
+      map-table (λ (i : Input). oneIf (i .controllable)) (λ i. record {
+        own = getD (columnOf rows 0 (h .inputs) 0) i 0;
+        controllable = isControllable
+            (behind .symbols) i;
+      }) (length (columnOf rows 0 (h .inputs) 0))
+      ∙ ap (table (λ i. oneIf (isControllable (behind .symbols) i))) inputs-long
 
-  module _ (latches-long : length latch ≡ latches) (nexts-long : length next ≡ latches) (gates-long : length gate ≡ gates) (lefts-long : length left ≡ gates) (rights-long : length right ≡ gates)
-      (few-inputs : inputs ≤ base .inputs) (few-latches : latches ≤ base .latches) (few-gates : gates ≤ base .variable) where
-    column : {A : Type 0} (f : A → ℕ) (g : ℕ → A) (l : List ℕ) (n : ℕ) → length l ≡ n → ((i : ℕ) → f (g i) ≡ getD l i 0) → map f (table g n) ≡ l
-    column f g l n e same = map-table f g n ∙ table-same (λ i. f (g i)) (λ i. getD l i 0) n (λ i h. same i) ∙ ap (table (λ i. getD l i 0)) (sym e) ∙ table-getD l 0
+  flags-padded : flags ≡ padded (base .inputs) (table (λ i. oneIf (isControllable (behind .symbols) i)) (h .inputs))
+  flags-padded =
+      padded-is (base .inputs) flags (table flag (h .inputs)) long (omega (arith, size, few .inputs))
+      (λ i l. flagged .says i (omega (arith, size)) ∙ sym (getD-table flag (h .inputs) i 0 (omega (arith, size))))
+      (λ i l. flagged .others i (omega (arith, size)))
+    where
+      flag : ℕ → ℕ
+      flag i = oneIf (isControllable (behind .symbols) i)
 
-    -- the value that the code makes stores the circuit that the file means
-    pub value-stored : (v : Value) → v .largest ≡ m → v .inputs ≡ inputs → v .latches ≡ latches → v .gates ≡ gates → v .output ≡ literal → v .input ≡ input ++ drop inputs (zeroes (base .inputs)) → v .controllable ≡ flags ++ drop inputs (zeroes (base .inputs)) → v .latch ≡ latch ++ drop latches (zeroes (base .latches)) → v .next ≡ next ++ drop latches (zeroes (base .latches)) → v .gate ≡ gate ++ drop gates (zeroes (base .variable)) → v .left ≡ left ++ drop gates (zeroes (base .variable)) → v .right ≡ right ++ drop gates (zeroes (base .variable)) → v ≡ stored (circuitOf (w .file))
-    unfolding stored headerWith latchAt gateAt circuitOf
-    value-stored v q₁ q₂ q₃ q₄ q₅ q₆ q₇ q₈ q₉ q₁₀ q₁₁ q₁₂ =
-        λ x.
-        record {
-          largest = (q₁ ∙ sym (w .largest)) x;
-          inputs = (q₂ ∙ sym (ap length (w .inputs) ∙ inputs-long) ∙ sym (length-table {A = Input} (λ i. record { own = getD (w .file .inputs) i 0; controllable = isControllable (w .file .symbols) i }) (length (w .file .inputs)))) x;
-          latches = (q₃ ∙ sym (ap length (w .latches) ∙ length-table (latchAt latch next) latches)) x;
-          gates = (q₄ ∙ sym (ap length (w .gates) ∙ length-table (gateAt gate left right) gates)) x;
-          input = (q₆ ∙ padded-part (base .inputs) inputs input inputs-long few-inputs ∙ ap (padded (base .inputs)) (sym input-column)) x;
-          controllable = (q₇ ∙ padded-part (base .inputs) inputs flags flags-long few-inputs ∙ ap (padded (base .inputs)) (sym flag-column)) x;
-          latch = (q₈ ∙ padded-part (base .latches) latches latch latches-long few-latches ∙ ap (padded (base .latches)) (sym (ap (map (λ (l : Latch). l .own)) (w .latches) ∙ column (λ (l : Latch). l .own) (latchAt latch next) latch latches latches-long (λ i. refl)))) x;
-          next = (q₉ ∙ padded-part (base .latches) latches next nexts-long few-latches ∙ ap (padded (base .latches)) (sym (ap (map (λ (l : Latch). l .next)) (w .latches) ∙ column (λ (l : Latch). l .next) (latchAt latch next) next latches nexts-long (λ i. refl)))) x;
-          output = (q₅ ∙ sym (w .output)) x;
-          gate = (q₁₀ ∙ padded-part (base .variable) gates gate gates-long few-gates ∙ ap (padded (base .variable)) (sym (ap (map (λ (g : Gate). g .own)) (w .gates) ∙ column (λ (g : Gate). g .own) (gateAt gate left right) gate gates gates-long (λ i. refl)))) x;
-          left = (q₁₁ ∙ padded-part (base .variable) gates left lefts-long few-gates ∙ ap (padded (base .variable)) (sym (ap (map (λ (g : Gate). g .left)) (w .gates) ∙ column (λ (g : Gate). g .left) (gateAt gate left right) left gates lefts-long (λ i. refl)))) x;
-          right = (q₁₂ ∙ padded-part (base .variable) gates right rights-long few-gates ∙ ap (padded (base .variable)) (sym (ap (map (λ (g : Gate). g .right)) (w .gates) ∙ column (λ (g : Gate). g .right) (gateAt gate left right) right gates rights-long (λ i. refl)))) x;
-        }
+      size : length (table flag (h .inputs)) ≡ h .inputs
+      size = length-table flag (h .inputs)
 
-    -- the reader's answer: number 9, or the circuit
-    pub lines-as : (v : Value) (r : FileRead) → v ≡ stored (circuitOf (w .file)) → take inputs (v .input) ≡ input → take inputs (v .controllable) ≡ flags → CountedAs v inputs r → ReadAs (circuitOfLines (linesRead (headerWith m inputs latches gates) (lines (drop (from .at) bytes)))) r
-    unfolding circuitOfLines refuseIf
-    lines-as v r is front fronts h = by (tooMany base (circuitOf (w .file))) refl
-      where
-        asked : tooMany base (withInputs (inputsOf (take inputs (v .input)) (take inputs (v .controllable)))) ≡ tooMany base (circuitOf (w .file))
-        asked = ap₂ (λ (a b : List ℕ). tooMany base (withInputs (inputsOf a b))) front fronts ∙ too-many-same
+  pub value-stored : valueOf h rows flags ≡ stored (circuitOf file)
+  unfolding valueOf stored circuitOf rowsFile columnOf
+  value-stored =
+      let first = h .inputs + h .latches + 1 in
+      λ x.
+      record {
+        largest = h .largest;
+        inputs = sym (length-table {A = Input} (λ i. record {
+          own = getD (columnOf rows 0 (h .inputs) 0) i 0;
+          controllable = isControllable (behind .symbols)
+              i;
+        }) (length (columnOf rows 0 (h .inputs) 0)) ∙ inputs-long) x;
+        latches = sym (length-table {A = Latch} (λ i. record { own = cell rows (h .inputs + i) 0; next = cell rows (h .inputs + i) 1 }) (h .latches)) x;
+        gates = sym (length-table {A = Gate} (λ i. record { own = cell rows (first + i) 0; left = cell rows (first + i) 1; right = cell rows (first + i) 2 })
+            (h .gates)) x;
+        input = padded (base .inputs) (sym input-column x);
+        controllable = (flags-padded ∙ ap (padded (base .inputs)) (sym flag-column)) x;
+        latch = padded (base .latches) (sym (map-table (λ (l : Latch). l .own) (λ i. record
+            { own = cell rows (h .inputs + i) 0; next = cell rows (h .inputs + i) 1 }) (h .latches)) x);
+        next = padded (base .latches) (sym (map-table (λ (l : Latch). l .next) (λ i. record
+            { own = cell rows (h .inputs + i) 0; next = cell rows (h .inputs + i) 1 }) (h .latches)) x);
+        output = cell rows (h .inputs + h .latches) 0;
+        gate = padded (base .variable) (sym (map-table (λ (g : Gate). g .own) (λ i. record
+            { own = cell rows (first + i) 0; left = cell rows (first + i) 1; right = cell rows (first + i) 2 }) (h .gates)) x);
+        left = padded (base .variable) (sym (map-table (λ (g : Gate). g .left) (λ i. record
+            { own = cell rows (first + i) 0; left = cell rows (first + i) 1; right = cell rows (first + i) 2 }) (h .gates)) x);
+        right = padded (base .variable) (sym (map-table (λ (g : Gate). g .right)
+            (λ i. record { own = cell rows (first + i) 0; left = cell rows (first + i) 1; right = cell rows (first + i) 2 }) (h .gates)) x);
+      }
 
-        by : (b : Bool) → tooMany base (circuitOf (w .file)) ≡ b → ReadAs (circuitOfLines (linesRead (headerWith m inputs latches gates) (lines (drop (from .at) bytes)))) r
-        by true e = read-refused _ tooManyInputs 0 r (rw (w .whole, e)) (h .many (asked ∙ e))
-        by false e = read-taken _ (circuitOf (w .file)) r (rw (w .whole, e)) (h .few (asked ∙ e) ∙ ap {B = FileRead} (λ u. record { answer = Taken; circuit = u }) is)
+  -- inputs of each sort, counted in the value and in the circuit
+  too-many-same : tooMany base (withInputs (inputsOf (take (h .inputs) (valueOf h rows flags .input)) (take (h .inputs) flags))) ≡ tooMany base (circuitOf file)
+  unfolding tooMany withInputs uncontrollableCount controllableCount inputsOf circuitOf rowsFile valueOf padded
+  too-many-same = ap₂ (λ (u c : ℕ). ltb (base .uncontrollable) u || ltb (base .controllable) c)
+      (count (λ i. not (i .controllable)) (λ i l. ap not (flag i l))) (count (λ i. i .controllable) flag)
+    where
+      front : List ℕ
+      front = take (h .inputs) (padded (base .inputs) (columnOf rows 0 (h .inputs) 0))
+
+      front-long : length front ≡ h .inputs
+      front-long =
+          length-take (h .inputs) (padded (base .inputs) (columnOf rows 0 (h .inputs) 0))
+          ∙ omega (
+            arith,
+            few .inputs,
+            length-take (base .inputs) (columnOf rows 0 (h .inputs) 0 ++ replicate (base .inputs) 0),
+            length-append
+                (columnOf rows 0 (h .inputs) 0) (replicate (base .inputs) 0),
+            length-replicate {A = ℕ} (base .inputs) 0,
+          )
+
+      flag : (i : ℕ) → i < h .inputs → not (eqb (getD (take (h .inputs) flags) i 0) 0) ≡ isControllable (behind .symbols) i
+      flag i l = ap (λ (n : ℕ). not (eqb n 0)) (getD-take (h .inputs) flags i 0 l ∙ flagged .says i l) ∙ flag-is (isControllable (behind .symbols) i)
+
+      asked : ℕ → Input
+      asked i = record { own = literalOf (getD front i 0); controllable = not (eqb (getD (take (h .inputs) flags) i 0) 0) }
+
+      meant : ℕ → Input
+      meant i = record { own = getD (columnOf rows 0 (h .inputs) 0) i 0; controllable = isControllable (behind .symbols) i }
+
+      count : (p : Input → Bool) → ((i : ℕ) → i < h .inputs → p (asked i) ≡ p (meant i))
+          → inputsThat p (table asked (length front)) ≡ inputsThat p (table meant (length (columnOf rows 0 (h .inputs) 0)))
+      count p e = rw (front-long, inputs-long) (inputs-that-same p p asked meant (h .inputs) e)
+
+  -- the reader's answer: number 9, or the circuit
+  pub lines-as : (bytes : List ℕ) (from : Cursor) → linesRead h (lines (drop (from .at) bytes)) ≡ taken file → (r : FileRead)
+      → CountedAs (valueOf h rows flags) (h .inputs) r
+      → ReadAs (circuitOfLines (linesRead h (lines (drop (from .at) bytes)))) r
+  unfolding circuitOfLines refuseIf valueOf
+  lines-as bytes from whole r w = by (tooMany base (circuitOf file)) refl
+    where
+      by : (b : Bool) → tooMany base (circuitOf file) ≡ b → ReadAs (circuitOfLines (linesRead h (lines (drop (from .at) bytes)))) r
+      by true e = read-refused _ tooManyInputs 0 r (rw (whole, e)) (w .many (too-many-same ∙ e))
+      by false e = read-taken _ (circuitOf file) r (rw (whole, e)) (w .few (too-many-same ∙ e)
+          ∙ ap {B = FileRead} (λ u. record { answer = Taken; circuit = u }) value-stored)

@@ -1,102 +1,67 @@
--- All lines behind the header, as the code holds them. Assumes nothing.
-use Prim.Native.Nat.{ℕ, suc, _+_, _^_, _<_, _≤_}
-use native.Mathlib.Decide.{decLt}
+-- All lines behind the header: lines, then the late 7, then symbols. Assumes nothing.
+use Prim.Native.Nat.{ℕ, _+_, _≤_, _<_}
 use native.Mathlib.Omega.{arith}
-use mathlib.Core.Bool.{Bool, true, false}
-use mathlib.Core.List.{List, [], _∷_, _++_, map}
-use mathlib.Core.Option.{Option}
-use mathlib.Core.Path.{_≡_, refl, sym, ap, ap₂, _∙_}
-use lib.ListN.{length, getD, drop}
+use mathlib.Core.List.{List, []}
+use mathlib.Core.Path.{_≡_, sym, ap, _∙_}
+use lib.ListN.{length, drop}
 use Rattle.below.specs.Table.{table}
-use Rattle.below.proofs.laws.Table.{getD-table, getD-table-past, map-table, table-getD}
-use Rattle.circuit.specs.Limits.{base}
-use Rattle.circuit.specs.Outcome.{Outcome, taken, refused, _>>=_}
-use Rattle.reader.specs.declared.body.Bodied.{Bodied}
-use Rattle.reader.specs.declared.body.Bodied.the-variants.{Lines, Refused}
-use Rattle.reader.specs.BodyRead.{headerWith, BodyAt, bodyRead}
+use Rattle.below.proofs.laws.Table.{length-table}
+use Rattle.circuit.specs.Outcome.{Outcome, taken, refused, _>>=_, _>>_}
 use Rattle.fields.specs.declared.line.Cursor.{Cursor}
+use Rattle.reader.specs.contracts.AllLines.{ruleAt, lineCount, lined}
+use Rattle.reader.specs.contracts.BodyAs.{BodyAt}
+use Rattle.reader.specs.contracts.Rows.{lateAt, rowsFile}
+use Rattle.reader.specs.contracts.SymbolsAs.{SymbolsAs}
+use Rattle.reader.specs.contracts.TextAs.{TextAs}
+use Rattle.reader.specs.contracts.UsedAs.{UsedAs}
+use Rattle.reader.specs.declared.body.Reached.{Reached}
+use Rattle.reader.specs.declared.body.Reached.the-variants.{At, Refused}
+use Rattle.reader.proofs.laws.RowsFile.{finished-rows}
+use Rattle.reader.proofs.laws.Sections.{finished, lines-by-rows}
 use Rattle.text.specs.Header.{Header}
 use Rattle.text.specs.Line.{lines}
-use Rattle.text.specs.Number.{Num, is, bad, number}
-use Rattle.text.specs.Read.{latchOf, gateOf, linesRead}
-use Rattle.reader.specs.SectionAs.{beginning, inputRow, latchRow, gateRow}
-use Rattle.text.specs.Stages.{symbolStage}
-use Rattle.text.specs.Symbol.{Symbol, Symbols, positions, symbolAt, symbolOf, symbolLines, isComment, orBadSymbol}
-use Rattle.lines.specs.Named.{counted}
-use Rattle.reader.specs.TextAt.{latchAt, gateAt, TextAs, NamedAs}
-use Rattle.reader.proofs.laws.LinesLoop.{lines-taken, lines-refused}
-use Rattle.text.proofs.laws.Stages.{fileOf, behindLate}
+use Rattle.text.specs.Numbers.{notDefined}
+use Rattle.text.specs.Read.{linesRead}
+use Rattle.text.specs.Section.{Body, used}
+use Rattle.text.specs.Stages.{unread}
+use Rattle.text.specs.Symbol.{symbolLines}
 
--- symbols look only at how many positions a letter has
-module _ (h k : Header) (same : (letter : ℕ) → positions h letter ≡ positions k letter) where
-  symbol-at-same : (seen : List Symbol) (letter position : ℕ) (text : List ℕ) → symbolAt h seen letter position text ≡ symbolAt k seen letter position text
-  unfolding symbolAt
-  symbol-at-same seen letter position text = rw (same letter)
+module _ (h : Header) (bytes : List ℕ) (from : Cursor) where
+  pub text-refused : (number place : ℕ) → lined (ruleAt h) 0 (lineCount h) (unread (lines (drop (from .at) bytes))) ≡ refused number place
+      → linesRead h (lines (drop (from .at) bytes)) ≡ refused number place
+  text-refused number place e = lines-by-rows h (lines (drop (from .at) bytes)) ∙ ap (λ (o : Outcome Body). o >>= finished h) e
 
-  symbol-same : (seen : List Symbol) (line : List ℕ) → symbolOf h seen line ≡ symbolOf k seen line
-  unfolding symbolOf
-  symbol-same seen [] = refl
-  symbol-same seen (letter ∷ t) = by (number t) refl
-    where
-      by : (n : Num) → number t ≡ n → symbolOf h seen (letter ∷ t) ≡ symbolOf k seen (letter ∷ t)
-      by bad e = rw (e, symbolOf)
-      by (is position text) e = rw (e, symbolOf) (symbol-at-same seen letter position text)
+  module _ (marks rows : List ℕ) (behind : Cursor) (w : BodyAt h bytes from marks rows behind) (k : ℕ)
+      (late : UsedAs marks (table (lateAt h rows) (h .latches + 1)) k) where
+    abbrev literals : List ℕ
+    literals = table (lateAt h rows) (h .latches + 1)
 
-  bind-same : (o : Outcome Symbol) (f g : Symbol → Outcome Symbols) → ((s : Symbol) → f s ≡ g s) → (o >>= f) ≡ (o >>= g)
-  bind-same (taken s) f g e = e s
-  bind-same (refused number place) f g e = refl
+    -- behind the lines before the symbols
+    so-far : linesRead h (lines (drop (from .at) bytes))
+        ≡ (used (w .defined) (2 + h .inputs) literals >> (symbolLines h (3 + h .inputs + h .latches + h .gates) [] (lines (drop (behind .at) bytes)) >>= λ s.
+        taken (rowsFile h rows s)))
+    so-far = lines-by-rows h (lines (drop (from .at) bytes)) ∙ ap (λ (o : Outcome Body). o >>= finished h) (w .whole)
+        ∙ finished-rows h rows (w .defined) (lines (drop (behind .at) bytes))
 
-  pub symbol-lines-same : (place : ℕ) (seen : List Symbol) (ls : List (List ℕ)) → symbolLines h place seen ls ≡ symbolLines k place seen ls
-  unfolding symbolLines
-  symbol-lines-same place seen [] = refl
-  symbol-lines-same place seen (l ∷ ls) = by (isComment l) refl (λ s. symbol-lines-same (suc place) (seen ++ (s ∷ [])) ls)
-    where
-      by : (b : Bool) → isComment l ≡ b → ((s : Symbol) → symbolLines h (suc place) (seen ++ (s ∷ [])) ls ≡ symbolLines k (suc place) (seen ++ (s ∷ [])) ls) → symbolLines h place seen (l ∷ ls) ≡ symbolLines k place seen (l ∷ ls)
-      by true e ih = rw (e, symbolLines)
-      by false e ih = rw (e, symbolLines) (ap (λ (o : Option Symbol). orBadSymbol place o >>= λ s. symbolLines h (suc place) (seen ++ (s ∷ [])) ls) (symbol-same seen l) ∙ bind-same (orBadSymbol place (symbolOf k seen l)) (λ s. symbolLines h (suc place) (seen ++ (s ∷ [])) ls) (λ s. symbolLines k (suc place) (seen ++ (s ∷ [])) ls) ih)
+    many : length literals ≡ h .latches + 1
+    many = length-table (lateAt h rows) (h .latches + 1)
 
--- zeros everywhere
-pub zeros-at : (n i : ℕ) → _≡_ {A = ℕ} (getD (table (λ j. 0) n) i 0) 0
-zeros-at n i = elim (decLt i n) [ yes h ↦ getD-table (λ j. 0) n i 0 h | no h ↦ getD-table-past (λ j. 0) n i 0 (omega arith) ]
+    pub text-late : k ≤ h .latches → linesRead h (lines (drop (from .at) bytes)) ≡ refused notDefined (2 + h .inputs + k)
+    text-late l = so-far ∙ rw (late .unknown (omega (arith, many)) (w .defined) (2 + h .inputs) (w .says))
 
--- the line behind the gates has a small number
-pub small-line : (m inputs latches gates line : ℕ) → line ≡ 3 + headerWith m inputs latches gates .inputs + headerWith m inputs latches gates .latches + headerWith m inputs latches gates .gates → inputs ≤ base .inputs → latches ≤ base .latches → gates ≤ base .variable → line < 2 ^ 32
-unfolding headerWith
-small-line m inputs latches gates line e i l g = omega arith
+    pub text-as : h .latches < k → (flags : List ℕ) (r : Reached) → SymbolsAs h bytes behind flags r → TextAs h bytes from rows flags r
+    text-as l flags r read = by r read
+      where
+        known : used (w .defined) (2 + h .inputs) literals ≡ taken tt
+        known = late .known (omega (arith, many, late .within)) (w .defined) (2 + h .inputs) (w .says)
 
-module _ (m inputs latches gates : ℕ) (bytes : List ℕ) (from : Cursor) where
-  pub text-refused : (number place : ℕ) → bodyRead (headerWith m inputs latches gates) (beginning bytes (from .at) []) ≡ refused number place → linesRead (headerWith m inputs latches gates) (lines (drop (from .at) bytes)) ≡ refused number place
-  unfolding beginning
-  text-refused number place e = lines-refused (headerWith m inputs latches gates) (lines (drop (from .at) bytes)) number place e
+        place : behind .line ≡ 3 + h .inputs + h .latches + h .gates
+        place = w .line ∙ omega arith
 
-  pub text-as : (input flags latch next gate left right : List ℕ) (behind : Cursor) (literal : ℕ) → BodyAt (headerWith m inputs latches gates) bytes from input latch next gate left right behind literal → length input ≡ inputs → (r : Bodied) → NamedAs inputs latches bytes behind literal flags r → TextAs (headerWith m inputs latches gates) bytes from input flags latch next gate left right r
-  unfolding beginning headerWith inputRow latchRow gateRow latchAt gateAt latchOf gateOf positions counted
-  text-as input flags latch next gate left right behind literal w long r h = by r h
-    where
-      H : Header
-      H = headerWith m inputs latches gates
+        so : linesRead h (lines (drop (from .at) bytes)) ≡ (symbolLines h (behind .line) [] (lines (drop (behind .at) bytes)) >>= λ s. taken
+            (rowsFile h rows s))
+        so = so-far ∙ rw known (ap (λ (p : ℕ). symbolLines h p [] (lines (drop (behind .at) bytes)) >>= λ s. taken (rowsFile h rows s)) (sym place))
 
-      so : linesRead H (lines (drop (from .at) bytes)) ≡ behindLate H (w .bodies .first .inputs) (w .bodies .first .latches) (w .bodies .last .output) (w .bodies .last .gates)
-      so = lines-taken H (lines (drop (from .at) bytes)) (w .bodies) (w .whole)
-
-      symbols : symbolStage H (w .bodies .last .gates) ≡ symbolLines (counted inputs latches) (behind .line) [] (lines (drop (behind .at) bytes))
-      symbols =
-          ap₂ (λ (p : ℕ) (ls : List (List ℕ)). symbolLines H p [] ls) (sym (w .line)) (w .rest)
-          ∙ symbol-lines-same H (counted inputs latches) (λ letter. refl) (behind .line) [] (lines (drop (behind .at) bytes))
-
-      by : (s : Bodied) → NamedAs inputs latches bytes behind literal flags s → TextAs (headerWith m inputs latches gates) bytes from input flags latch next gate left right s
-      by (Lines end output) (same, read) =
-          rw same
-          (record {
-            file = fileOf H (w .bodies .first .inputs) (w .bodies .first .latches) (w .bodies .last .output) (w .bodies .last .gates) (record { symbols = read .symbols; comment = read .comment });
-            whole = so ∙ rw (symbols ∙ read .whole);
-            largest = refl;
-            inputs = ap (map (λ fs. getD fs 0 0)) (w .inputs) ∙ map-table (λ fs. getD fs 0 0) (inputRow input) inputs ∙ ap (table (λ i. getD input i 0)) (sym long) ∙ table-getD input 0;
-            latches = ap (map latchOf) (w .latches) ∙ map-table latchOf (latchRow latch next) latches;
-            output = ap (λ (rows : List (List ℕ)). getD (getD rows 0 []) 0 0) (w .output);
-            gates = ap (map gateOf) (w .gates) ∙ map-table gateOf (gateRow gate left right) gates;
-            flagged = read .flagged;
-            within = read .within;
-            line = read .line ∙ ap (λ (n : ℕ). n + length (read .symbols)) (w .line);
-          })
-      by (Refused q) e = so ∙ rw (symbols ∙ e)
+        by : (q : Reached) → SymbolsAs h bytes behind flags q → TextAs h bytes from rows flags q
+        by (At end) v = record { behind = v .behind; whole = so ∙ rw (v .whole); flagged = v .flagged }
+        by (Refused q) e = so ∙ rw e

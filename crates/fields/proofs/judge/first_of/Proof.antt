@@ -1,5 +1,5 @@
 -- `fields::judge::first_of` meets its contract: the tests stand in the definition's order. Assumes nothing.
-use Rattle.fields.specs.Marks.{numberOr}
+use Rattle.fields.specs.contracts.Marks.{numberOr}
 use Rattle.text.specs.Rules.{firstOf}
 use Rattle.fields.proofs.judge.first_of.Statement.{statement}
 use Rattle.fields.proofs.judge.first_of.Tie as tie

@@ -4,15 +4,9 @@ use borrow.Author.Needs.{needs}
 use lib.ListN.{List·getD-eq-default}
 use mathlib.Core.Path.{refl}
 use Rattle.circuit.specs.Literal.{variable}
-use Rattle.fields.specs.Marks.{marked}
+use Rattle.fields.specs.contracts.Marks.{marked}
 use Rattle.fields.proofs.judge.is_marked.Statement.{statement}
 use Rattle.fields.proofs.judge.is_marked.Tie as tie
-
-cast-v : tie.Need-cast-v
-cast-v c = search needs
-
-shared-slice-read-result : tie.Need-shared-slice-read-result
-shared-slice-read-result c = search needs
 
 returns : tie.Need-returns
 unfolding marked variable
@@ -23,4 +17,4 @@ unfolding marked variable
 returns-2 c = rw (List·getD-eq-default (c .before .args .defined .now) 0 {n = c .before .args .l / 2} (c .if1 .left))
 
 pub is-marked-spec : {M : Type 1} → statement M
-is-marked-spec = tie.close (tie.spec cast-v shared-slice-read-result returns returns-2)
+is-marked-spec = tie.close (tie.spec (λ c. search needs) (λ c. search needs) returns returns-2)

@@ -5,15 +5,9 @@ use Rattle.circuit.specs.Literal.{tooLarge}
 use Rattle.fields.proofs.judge.too_large.Statement.{statement}
 use Rattle.fields.proofs.judge.too_large.Tie as tie
 
-mul-result : tie.Need-mul-result
-mul-result c = search needs
-
-add-result : tie.Need-add-result
-add-result c = search needs
-
 returns : tie.Need-returns
 unfolding tooLarge
 returns c = refl
 
 pub too-large-spec : {M : Type 1} → statement M
-too-large-spec = tie.close (tie.spec mul-result add-result returns)
+too-large-spec = tie.close (tie.spec (λ c. search needs) (λ c. search needs) returns)

@@ -17,26 +17,11 @@ Inv-loop s at i₀ i = i + length (firstLine (drop i s)) ≡ at + length (firstL
 abbrev μ-loop : tie.MeasureT-loop
 μ-loop s at i₀ i = length s - i
 
-loop-holds : tie.Need-loop-holds Inv-loop μ-loop
-loop-holds c = search needs
-
-shared-slice-read-if1 : tie.Need-shared-slice-read-if1 Inv-loop μ-loop
-shared-slice-read-if1 c = search needs
-
-add-result : tie.Need-add-result Inv-loop μ-loop
-add-result c = search needs
-
 returns : tie.Need-returns Inv-loop μ-loop
 returns c =
     let s = c .before .before .before .before .args .s .now in
     let i = c .before .before .before .loop .i in
     omega (arith, line-stops s i (c .before .before .loop-test .taken) (c .if1 .taken), c .before .before .before .loop .inv)
-
-add-i : tie.Need-add-i Inv-loop μ-loop
-add-i c = search needs
-
-loop-less : tie.Need-loop-less Inv-loop μ-loop
-loop-less c = search needs
 
 loop-again : tie.Need-loop-again Inv-loop μ-loop
 loop-again c =
@@ -55,11 +40,11 @@ line-end-spec =
     (tie.spec
     Inv-loop
     μ-loop
-    loop-holds
-    shared-slice-read-if1
-    add-result
+    (λ c. search needs)
+    (λ c. search needs)
+    (λ c. search needs)
     returns
-    add-i
-    loop-less
+    (λ c. search needs)
+    (λ c. search needs)
     loop-again
     returns-2)

@@ -10,12 +10,6 @@ use Rattle.fields.proofs.laws.PositionSymbol.{comment-two, comment-othe
 use Rattle.fields.proofs.name.is_comment.Statement.{statement}
 use Rattle.fields.proofs.name.is_comment.Tie as tie
 
-shared-slice-read-if2 : tie.Need-shared-slice-read-if2
-shared-slice-read-if2 c = search needs
-
-shared-slice-read-result : tie.Need-shared-slice-read-result
-shared-slice-read-result c = search needs
-
 returns : tie.Need-returns
 returns c =
     let line = c .before .before .before .before .args .line .now in
@@ -40,4 +34,4 @@ returns-3 c = sym (comment-other (c .before .args .line .now) (c .if1 .left))
 
 pub is-comment-spec : {M : Type 1} → statement M
 is-comment-spec =
-    tie.close (tie.spec shared-slice-read-if2 shared-slice-read-result returns returns-2 returns-3)
+    tie.close (tie.spec (λ c. search needs) (λ c. search needs) returns returns-2 returns-3)

@@ -24,23 +24,11 @@ loop-holds c =
     let a = c .before .args in
     ap (λ (i : ℕ). startsWith (a .prefix .now) (drop i (a .s .now))) (sym (add-zero (a .at)))
 
-sub-if2 : tie.Need-sub-if2 Inv-loop μ-loop
-sub-if2 c = search needs
-
 returns-2 : tie.Need-returns-2 Inv-loop μ-loop
 returns-2 c =
     let a = c .before .before .before .before .args in
     let l = c .before .before .loop in
     sym (l .inv ∙ prefix-cut (a .prefix .now) (a .s .now) (a .at) (l .i) (c .before .loop-test .taken) (omega arith))
-
-add-if3 : tie.Need-add-if3 Inv-loop μ-loop
-add-if3 c = search needs
-
-shared-slice-read-if3 : tie.Need-shared-slice-read-if3 Inv-loop μ-loop
-shared-slice-read-if3 c = search needs
-
-shared-slice-read-if3-2 : tie.Need-shared-slice-read-if3-2 Inv-loop μ-loop
-shared-slice-read-if3-2 c = search needs
 
 returns-3 : tie.Need-returns-3 Inv-loop μ-loop
 returns-3 c =
@@ -48,12 +36,6 @@ returns-3 c =
     let l = c .before .before .before .before .before .loop in
     sym
     (l .inv ∙ prefix-differs (a .prefix .now) (a .s .now) (a .at) (l .i) (c .before .before .before .before .loop-test .taken) (omega arith) (c .if3 .taken))
-
-add-i : tie.Need-add-i Inv-loop μ-loop
-add-i c = search needs
-
-loop-less : tie.Need-loop-less Inv-loop μ-loop
-loop-less c = search needs
 
 loop-again : tie.Need-loop-again Inv-loop μ-loop
 loop-again c =
@@ -75,13 +57,13 @@ starts-with-spec =
     μ-loop
     returns
     loop-holds
-    sub-if2
+    (λ c. search needs)
     returns-2
-    add-if3
-    shared-slice-read-if3
-    shared-slice-read-if3-2
+    (λ c. search needs)
+    (λ c. search needs)
+    (λ c. search needs)
     returns-3
-    add-i
-    loop-less
+    (λ c. search needs)
+    (λ c. search needs)
     loop-again
     returns-4)

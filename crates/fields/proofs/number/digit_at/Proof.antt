@@ -4,12 +4,6 @@ use Rattle.fields.proofs.laws.PositionNumber.{digit-is, digit-above, di
 use Rattle.fields.proofs.number.digit_at.Statement.{statement}
 use Rattle.fields.proofs.number.digit_at.Tie as tie
 
-shared-slice-read-wide : tie.Need-shared-slice-read-wide
-shared-slice-read-wide c = search needs
-
-wide-requires : tie.Need-wide-requires
-wide-requires c κs = search needs
-
 returns : tie.Need-returns
 returns c =
     let a = c .before .before .before .before .before .before .args in
@@ -35,4 +29,4 @@ returns-4 c = digit-past (c .before .before .args .s .now) (c .before .before .a
 
 pub digit-at-spec : {M : Type 1} → statement M
 digit-at-spec =
-    tie.close (tie.spec shared-slice-read-wide wide-requires returns returns-2 returns-3 returns-4)
+    tie.close (tie.spec (λ c. search needs) (λ c κs. search needs) returns returns-2 returns-3 returns-4)

@@ -5,7 +5,7 @@ use borrow.Author.Needs.{needs}
 use mathlib.Core.Path.{_≡_, sym, _∙_}
 use native.Mathlib.Numerals.{add-one}
 use native.Mathlib.Omega.{arith}
-use Rattle.fields.specs.NumberAt.{digitAt}
+use Rattle.fields.specs.contracts.NumberAt.{digitAt}
 use Rattle.fields.proofs.laws.PositionNumber.{Scanning, scanned-start, scanned-more, scanned-below, too-long, no-digits, leading-zero, number-here}
 use Rattle.fields.proofs.number.number_at.Statement.{statement}
 use Rattle.fields.proofs.number.number_at.Tie as tie
@@ -15,9 +15,6 @@ Inv-loop s at first d₀ i₀ v₀ d i v = Scanning s at first d i v
 
 abbrev μ-loop : tie.MeasureT-loop
 μ-loop s at first d₀ i₀ v₀ d i v = at + 8 - i
-
-digit-at-requires : tie.Need-digit-at-requires Inv-loop μ-loop
-digit-at-requires c κs = search needs
 
 loop-holds : tie.Need-loop-holds Inv-loop μ-loop
 loop-holds c =
@@ -56,10 +53,11 @@ add-i : tie.Need-add-i Inv-loop μ-loop
 add-i c =
     let a = c .before .before .before .before .before .args in
     let l = c .before .before .loop in
-    omega (arith, (scanned-more (a .s .now) (a .at) (l .i) (l .v) (l .inv .scanned) (omega (arith, l .inv .digit, c .before .loop-test .taken))) .within (omega (arith, l .inv .scanned .count)))
-
-digit-at-requires-2 : tie.Need-digit-at-requires-2 Inv-loop μ-loop
-digit-at-requires-2 c κs = search needs
+    omega (
+      arith,
+      (scanned-more (a .s .now) (a .at) (l .i) (l .v) (l .inv .scanned) (omega (arith, l .inv .digit, c .before .loop-test .taken))) .within
+          (omega (arith, l .inv .scanned .count)),
+    )
 
 loop-less : tie.Need-loop-less Inv-loop μ-loop
 loop-less c =
@@ -72,7 +70,8 @@ loop-again c =
     let l = c .before .before .before .loop in
     let d : l .d ≡ digitAt (a .s .now) (l .i) = l .inv .digit in
     record {
-      scanned = rw (d, add-one) (scanned-more (a .s .now) (a .at) (l .i) (l .v) (l .inv .scanned) (omega (arith, l .inv .digit, c .before .before .loop-test .taken)));
+      scanned = rw (d, add-one) (scanned-more (a .s .now) (a .at) (l .i) (l .v) (l .inv .scanned)
+          (omega (arith, l .inv .digit, c .before .before .loop-test .taken)));
       digit = c .digit-at2 .ensures;
       opening = l .inv .opening;
       short = omega (arith, l .inv .short, l .inv .scanned .count, c .before .if1 .left);
@@ -122,14 +121,14 @@ number-at-spec =
     (tie.spec
     Inv-loop
     μ-loop
-    digit-at-requires
+    (λ c κs. search needs)
     loop-holds
     sub-if1
     returns
     mul-v
     add-v
     add-i
-    digit-at-requires-2
+    (λ c κs. search needs)
     loop-less
     loop-again
     returns-2

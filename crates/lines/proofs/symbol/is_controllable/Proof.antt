@@ -4,12 +4,6 @@ use borrow.Author.Tests.{eq-eqb, ne-eqb}
 use Rattle.lines.proofs.symbol.is_controllable.Statement.{statement}
 use Rattle.lines.proofs.symbol.is_controllable.Tie as tie
 
-slice-aggregate-starts-with : tie.Need-slice-aggregate-starts-with
-slice-aggregate-starts-with c = search needs
-
-starts-with-requires : tie.Need-starts-with-requires
-starts-with-requires c κs = search needs
-
 returns : tie.Need-returns
 returns c = rw (eq-eqb (c .before .before .before .before .args .letter) 105 (c .before .before .if1 .taken)) (c .starts-with .ensures)
 
@@ -18,4 +12,4 @@ returns-2 c = rw (ne-eqb (c .before .before .args .letter) 105 (c .if1 .left))
 
 pub is-controllable-spec : {M : Type 1} → statement M
 is-controllable-spec =
-    tie.close (tie.spec slice-aggregate-starts-with starts-with-requires returns returns-2)
+    tie.close (tie.spec (λ c. search needs) (λ c κs. search needs) returns returns-2)

@@ -1,164 +1,141 @@
--- `reader::body::body_lines` meets its contract: inputs and latches, output and gates, then what is used. Assumes nothing.
-use Prim.Native.Nat.{ℕ}
+-- `reader::body::body_lines` meets its contract: what is left of the lines equals the whole. Assumes nothing.
 use borrow.Author.Needs.{needs}
-use lib.ListN.{length}
-use mathlib.Core.Path.{_∙_, subst}
+use Prim.Native.Nat.{_+_, _-_, _^_, _<_}
+use lib.ListN.{take, drop}
+use mathlib.Core.Path.{subst}
 use native.Mathlib.Omega.{arith}
-use Rattle.reader.proofs.laws.BodyLoop.{body-refused, body-refused-last, body-as}
-use Rattle.reader.specs.BodyRead.{FirstAs, LastAs}
-use Rattle.reader.specs.UsedLines.{UsedLines}
+use Rattle.lines.specs.contracts.Headed.{said}
+use Rattle.lines.specs.contracts.Kinds.{ruleOf}
+use Rattle.lines.specs.contracts.LinedAs.{LinedAs}
+use Rattle.lines.specs.declared.body.Lined.the-variants.{Row}
+use Rattle.reader.specs.contracts.AllLines.{lineCount}
+use Rattle.reader.proofs.laws.BodyLoop.{Looping, looping-starts, looping-ends, looping-refuses, looping-goes-on, row-room}
+use Rattle.reader.proofs.laws.Place.{line-ends-within}
 use Rattle.reader.proofs.body.body_lines.Statement.{statement}
 use Rattle.reader.proofs.body.body_lines.Tie as tie
 
-first-lines-requires : tie.Need-first-lines-requires
-first-lines-requires c κs = search needs
+abbrev Inv-loop : tie.InvT-loop
+Inv-loop s h defined₀ rows₀ n here₀ j₀ defined rows here j = Looping (said h) s here₀ defined₀ rows₀ defined rows here j
 
-enum-known-r : tie.Need-enum-known-r
-enum-known-r c = search needs
+abbrev μ-loop : tie.MeasureT-loop
+μ-loop s h defined₀ rows₀ n here₀ j₀ defined rows here j = n - j
 
-enum-known-middle : tie.Need-enum-known-middle
-enum-known-middle c = search needs
+loop-holds : tie.Need-loop-holds Inv-loop μ-loop
+loop-holds c = looping-starts (said (c .before .before .before .before .args .h)) (c .before .before .before .before .args .s .now)
+    (c .before .before .before .before .args .from) (c .before .before .before .before .args .defined .now)
+    (c .before .before .before .before .args .rows .now) (c .before .before .before .before .pre)
 
-last-lines-requires : tie.Need-last-lines-requires
-last-lines-requires c κs =
-    let a = c .before .before .before .before .before .before .before .before .before .before .before .before .before .before .before .before .before .before .before .before .before .before .before .before .before .before .before .before .args in
-    let p = c .before .before .before .before .before .before .before .before .before .before .before .before .before .before .before .before .before .before .before .before .before .before .before .before .before .before .before .before .pre in
-    let f = c .before .before .before .before .before .before .before .before .before .before .before .before .before .before .before .first-lines in
-    let w = subst (FirstAs (a .m) (length (a .input .now)) (length (a .latch .now)) (a .s .now) (a .from) (f .last .1 .1 .1 .0) (f .last .1 .1 .1 .1 .0) (f .last .1 .1 .1 .1 .1 .0) (f .last .1 .1 .1 .1 .1 .1 .0)) (c .before .before .before .before .before .middle .given .1) (f .ensures) in
-    record {
-      within = w .within;
-      places = omega (arith, w .line, p .second, p .inputs, p .latches, p .gates);
-      largest = p .first .largest;
-      marks-all = f .kept .1 .1 .1 .0 ∙ p .first .marks-all;
-      lefts = p .lefts;
-      rights = p .rights;
-    }
+part-line-end : tie.Need-part-line-end Inv-loop μ-loop
+part-line-end c =
+    let c8 = c .before .before .before .before .before .before .before .before in
+    let l = c .before .before .before .loop in
+    line-ends-within (c8 .args .s .now) (l .here .at) (c .line-end .result) (c .line-end .ensures) (l .inv .within)
 
-enum-known-r-2 : tie.Need-enum-known-r-2
-enum-known-r-2 c = search needs
-
-enum-known-behind : tie.Need-enum-known-behind
-enum-known-behind c = search needs
-
-used-lines-requires : tie.Need-used-lines-requires
-used-lines-requires c κs =
-    let p = c .before .before .before .before .before .before .before .before .before .before .before .before .before .before .before .before .before .before .before .before .before .before .before .before .before .before .before .before .before .before .before .before .before .before .before .before .before .before .before .before .before .before .pre in
-    let f = c .before .before .before .before .before .before .before .before .before .before .before .before .before .before .before .before .before .before .before .before .before .before .before .before .before .before .before .before .before .first-lines in
-    (omega (arith, f .kept .1 .1 .1 .1 .0, p .inputs), omega (arith, f .kept .1 .1 .1 .1 .1 .1 .0, p .first .nexts, p .latches))
-
-same-length : tie.Need-same-length
-same-length c = search needs
-
-same-length-2 : tie.Need-same-length-2
-same-length-2 c = search needs
-
-same-length-3 : tie.Need-same-length-3
-same-length-3 c = search needs
-
-same-length-4 : tie.Need-same-length-4
-same-length-4 c = search needs
-
-returns : tie.Need-returns
+returns : tie.Need-returns Inv-loop μ-loop
 returns c =
-    let a = c .before .before .before .before .before .before .before .before .before .before .before .before .before .before .before .before .before .before .before .before .before .before .before .before .args in
-    let p = c .before .before .before .before .before .before .before .before .before .before .before .before .before .before .before .before .before .before .before .before .before .before .before .before .pre in
-    let f = c .before .before .before .before .before .before .before .before .before .before .before .first-lines in
-    let w = subst (FirstAs (a .m) (length (a .input .now)) (length (a .latch .now)) (a .s .now) (a .from) (f .last .1 .1 .1 .0) (f .last .1 .1 .1 .1 .0) (f .last .1 .1 .1 .1 .1 .0) (f .last .1 .1 .1 .1 .1 .1 .0)) (c .before .r .given .1) (f .ensures) in
-    body-refused (a .m) (length (a .input .now)) (length (a .latch .now)) (length (a .gate .now)) (a .s .now) (a .from) (p .second) (c .before .r .given .0 .0 .number) (c .before .r .given .0 .0 .place) w
+    let c8 = c .before .before .before .before .before .before .before .before in
+    let a = c8 .before .before .before .before .before .before .args in
+    let l = c8 .before .loop in
+    let e = c .before .before .before .before .before .before .line-end in
+    let k = c .before .before .before .before .before .before .before .kind-of in
+    let faulty = subst (LinedAs (a .h .largest) (ruleOf (k .result) (a .h .largest)) (l .defined)
+    (take (e .result - l .here .at) (drop (l .here .at) (a .s .now)))) (c .before .number .given .1) (c .before .before .before .line .ensures) in
+    let more : l .j < lineCount (said (a .h)) = omega (arith, c8 .loop-test .taken, c8 .before .before .line-count .ensures) in
+    looping-refuses (said (a .h)) (a .s .now) (a .from) (a .defined .now) (a .rows .now) (c8 .before .before .before .before .before .before .pre)
+    (l .defined) (l .rows) (l .here) (l .j) (l .inv) more (e .result) (e .ensures) (k .result) (k .ensures) (c .before .number .given .0 .0) faulty
 
-same-length-5 : tie.Need-same-length-5
-same-length-5 c = search needs
+-- what the line says
+abbrev Fine : tie.After-known-told2 Inv-loop μ-loop → Type 0
+Fine c =
+    let c8 = c .before .before .before .before .before .before .before .before in
+    let a = c8 .before .before .before .before .before .before .args in
+    let l = c8 .before .loop in
+    let g = c .before .a .given .0 in
+    LinedAs (a .h .largest) (ruleOf (c .before .before .before .before .before .before .before .kind-of .result) (a .h .largest)) (l .defined)
+    (take (c .before .before .before .before .before .before .line-end .result - l .here .at) (drop (l .here .at) (a .s .now)))
+    (Row (g .0) (g .1 .0) (g .1 .1 .0))
 
-same-length-6 : tie.Need-same-length-6
-same-length-6 c = search needs
+fine : (c : tie.After-known-told2 Inv-loop μ-loop) → Fine c
+fine c =
+    let c8 = c .before .before .before .before .before .before .before .before in
+    let a = c8 .before .before .before .before .before .before .args in
+    let l = c8 .before .loop in
+    let e = c .before .before .before .before .before .before .line-end in
+    subst (LinedAs (a .h .largest) (ruleOf (c .before .before .before .before .before .before .before .kind-of .result) (a .h .largest)) (l .defined)
+    (take (e .result - l .here .at) (drop (l .here .at) (a .s .now)))) (c .before .a .given .1) (c .before .before .before .line .ensures)
 
-same-length-7 : tie.Need-same-length-7
-same-length-7 c = search needs
+put-row-requires : tie.Need-put-row-requires Inv-loop μ-loop
+put-row-requires c κs =
+    let c8 = c .before .before .before .before .before .before .before .before in
+    let a = c8 .before .before .before .before .before .before .before .args in
+    let l = c8 .before .before .loop in
+    let e = c .before .before .before .before .before .before .before .line-end in
+    let k = c8 .kind-of in
+    let more : l .j < lineCount (said (a .h)) = omega (arith, c8 .before .loop-test .taken, c8 .before .before .before .line-count .ensures) in
+    row-room (said (a .h)) (a .s .now) (a .from) (a .defined .now) (a .rows .now) (c8 .before .before .before .before .before .before .before .pre)
+    (l .defined) (l .rows) (l .here) (l .j) (l .inv) more (e .result) (e .ensures) (k .result) (k .ensures) _ _ _ (fine (c .before))
 
-same-length-8 : tie.Need-same-length-8
-same-length-8 c = search needs
+add-here : tie.Need-add-here Inv-loop μ-loop
+add-here c =
+    let c8 = c .before .before .before .before .before .before .before .before in
+    let c16 = c8 .before .before .before .before .before .before .before .before in
+    let l = c16 .before .before .loop in
+    let small : l .here .line + 1 < 2 ^ 64 = omega (
+      arith,
+      l .inv .line,
+      l .inv .count,
+      c16 .before .before .before .before .before .before .before .pre .places,
+    ) in
+    search (needs, small)
 
-same-length-9 : tie.Need-same-length-9
-same-length-9 c = search needs
+loop-again : tie.Need-loop-again Inv-loop μ-loop
+loop-again c =
+    let c8 = c .before .before .before .before .before .before .before .before in
+    let c16 = c8 .before .before .before .before .before .before .before .before in
+    let a = c16 .before .before .before .before .before .before .before .args in
+    let l = c16 .before .before .loop in
+    let e = c8 .before .before .before .before .before .before .before .line-end in
+    let k = c16 .kind-of in
+    let g = c8 .before .before .a .given .0 in
+    let more : l .j < lineCount (said (a .h)) = omega (arith, c16 .before .loop-test .taken, c16 .before .before .before .line-count .ensures) in
+    looping-goes-on (said (a .h)) (a .s .now) (a .from) (a .defined .now) (a .rows .now) (c16 .before .before .before .before .before .before .before .pre)
+    (l .defined) (l .rows) (l .here) (l .j) (l .inv) more (e .result) (e .ensures) (k .result) (k .ensures)
+    (g .0) (g .1 .0) (g .1 .1 .0) (fine (c8 .before)) (c .before .before .before .mark .last .1 .0)
+    (c .before .before .before .before .before .before .before .put-row .last .0) (c .before .before .before .mark .ensures)
+    (c .before .before .before .before .before .before .before .put-row .ensures)
 
-same-length-10 : tie.Need-same-length-10
-same-length-10 c = search needs
-
-same-length-11 : tie.Need-same-length-11
-same-length-11 c = search needs
-
-returns-2 : tie.Need-returns-2
+returns-2 : tie.Need-returns-2 Inv-loop μ-loop
 returns-2 c =
-    let a = c .before .before .before .before .before .before .before .before .before .before .before .before .before .before .before .before .before .before .before .before .before .before .before .before .before .before .before .before .before .before .before .before .before .before .before .before .before .before .before .before .args in
-    let p = c .before .before .before .before .before .before .before .before .before .before .before .before .before .before .before .before .before .before .before .before .before .before .before .before .before .before .before .before .before .before .before .before .before .before .before .before .before .before .before .before .pre in
-    let f = c .before .before .before .before .before .before .before .before .before .before .before .before .before .before .before .before .before .before .before .before .before .before .before .before .before .before .before .first-lines in
-    let w = subst (FirstAs (a .m) (length (a .input .now)) (length (a .latch .now)) (a .s .now) (a .from) (f .last .1 .1 .1 .0) (f .last .1 .1 .1 .1 .0) (f .last .1 .1 .1 .1 .1 .0) (f .last .1 .1 .1 .1 .1 .1 .0)) (c .before .before .before .before .before .before .before .before .before .before .before .before .before .before .before .before .before .middle .given .1) (f .ensures) in
-    let l = c .before .before .before .before .before .before .before .before .before .before .before .last-lines in
-    let v = subst (LastAs (a .m) (length (a .gate .now)) (a .s .now) (c .before .before .before .before .before .before .before .before .before .before .before .before .before .before .before .before .before .middle .given .0 .0) (f .last .1 .1 .1 .0) (l .last .1 .1 .1 .0) (l .last .1 .1 .1 .1 .0) (l .last .1 .1 .1 .1 .1 .0) (l .last .1 .1 .1 .1 .1 .1 .0)) (c .before .r2 .given .1) (l .ensures) in
-    body-refused-last (a .m) (length (a .input .now)) (length (a .latch .now)) (length (a .gate .now)) (a .s .now) (a .from) (p .second) (f .last .1 .1 .1 .0) (f .last .1 .1 .1 .1 .0) (f .last .1 .1 .1 .1 .1 .0) (f .last .1 .1 .1 .1 .1 .1 .0) (c .before .before .before .before .before .before .before .before .before .before .before .before .before .before .before .before .before .middle .given .0 .0) w (c .before .r2 .given .0 .0 .number) (c .before .r2 .given .0 .0 .place) v
-
-same-length-12 : tie.Need-same-length-12
-same-length-12 c = search needs
-
-same-length-13 : tie.Need-same-length-13
-same-length-13 c = search needs
-
-same-length-14 : tie.Need-same-length-14
-same-length-14 c = search needs
-
-same-length-15 : tie.Need-same-length-15
-same-length-15 c = search needs
-
-same-length-16 : tie.Need-same-length-16
-same-length-16 c = search needs
-
-same-length-17 : tie.Need-same-length-17
-same-length-17 c = search needs
-
-same-length-18 : tie.Need-same-length-18
-same-length-18 c = search needs
-
-returns-3 : tie.Need-returns-3
-returns-3 c =
-    let a = c .before .before .before .before .before .before .before .before .before .before .before .before .before .before .before .before .before .before .before .before .before .before .before .before .before .before .before .before .before .before .before .before .before .before .before .before .before .before .before .before .before .before .before .args in
-    let p = c .before .before .before .before .before .before .before .before .before .before .before .before .before .before .before .before .before .before .before .before .before .before .before .before .before .before .before .before .before .before .before .before .before .before .before .before .before .before .before .before .before .before .before .pre in
-    let f = c .before .before .before .before .before .before .before .before .before .before .before .before .before .before .before .before .before .before .before .before .before .before .before .before .before .before .before .before .before .before .first-lines in
-    let w = subst (FirstAs (a .m) (length (a .input .now)) (length (a .latch .now)) (a .s .now) (a .from) (f .last .1 .1 .1 .0) (f .last .1 .1 .1 .1 .0) (f .last .1 .1 .1 .1 .1 .0) (f .last .1 .1 .1 .1 .1 .1 .0)) (c .before .before .before .before .before .before .before .before .before .before .before .before .before .before .before .before .before .before .before .before .middle .given .1) (f .ensures) in
-    let l = c .before .before .before .before .before .before .before .before .before .before .before .before .before .before .last-lines in
-    let v = subst (LastAs (a .m) (length (a .gate .now)) (a .s .now) (c .before .before .before .before .before .before .before .before .before .before .before .before .before .before .before .before .before .before .before .before .middle .given .0 .0) (f .last .1 .1 .1 .0) (l .last .1 .1 .1 .0) (l .last .1 .1 .1 .1 .0) (l .last .1 .1 .1 .1 .1 .0) (l .last .1 .1 .1 .1 .1 .1 .0)) (c .before .before .before .before .behind .given .1) (l .ensures) in
-    body-as (a .m) (length (a .input .now)) (length (a .latch .now)) (length (a .gate .now)) (a .s .now) (a .from) (p .second) (f .last .1 .1 .1 .0) (f .last .1 .1 .1 .1 .0) (f .last .1 .1 .1 .1 .1 .0) (f .last .1 .1 .1 .1 .1 .1 .0) (c .before .before .before .before .before .before .before .before .before .before .before .before .before .before .before .before .before .before .before .before .middle .given .0 .0) w (l .last .1 .1 .1 .0) (l .last .1 .1 .1 .1 .0) (l .last .1 .1 .1 .1 .1 .0) (l .last .1 .1 .1 .1 .1 .1 .0) (c .before .before .before .before .behind .given .0 .0) (c .before .before .before .before .behind .given .0 .1 .0) v (f .kept .1 .1 .1 .1 .1 .1 .0 ∙ p .first .nexts)
-    (c .used-lines .result)
-    (subst (λ (i : ℕ). UsedLines (l .last .1 .1 .1 .0) (f .last .1 .1 .1 .1 .1 .1 .0) i (c .before .before .before .before .behind .given .0 .0) (c .before .before .before .before .behind .given .0 .1 .0) (c .used-lines .result)) (f .kept .1 .1 .1 .1 .0) (c .used-lines .ensures))
+    let a = c .before .before .before .before .before .before .args in
+    let l = c .before .loop in
+    looping-ends (said (a .h)) (a .s .now) (a .from) (a .defined .now) (a .rows .now) (c .before .before .before .before .before .before .pre) (l .defined)
+    (l .rows) (l .here) (l .j) (l .inv) (omega (arith, c .loop-test .left, c .before .before .line-count .ensures))
 
 pub body-lines-spec : {M : Type 1} → statement M
 body-lines-spec =
     tie.close
     (tie.spec
-    first-lines-requires
-    enum-known-r
-    enum-known-middle
-    last-lines-requires
-    enum-known-r-2
-    enum-known-behind
-    used-lines-requires
-    same-length
-    same-length-2
-    same-length-3
-    same-length-4
+    Inv-loop
+    μ-loop
+    (λ c κs. search needs)
+    loop-holds
+    (λ c κs. search needs)
+    (λ c κs. search needs)
+    (λ c. search needs)
+    (λ c. search needs)
+    part-line-end
+    (λ c κs. search needs)
+    (λ c. search needs)
+    (λ c. search needs)
+    (λ c. search needs)
     returns
-    same-length-5
-    same-length-6
-    same-length-7
-    same-length-8
-    same-length-9
-    same-length-10
-    same-length-11
-    returns-2
-    same-length-12
-    same-length-13
-    same-length-14
-    same-length-15
-    same-length-16
-    same-length-17
-    same-length-18
-    returns-3)
+    (λ c. search needs)
+    put-row-requires
+    (λ c κs. search needs)
+    add-here
+    (λ c. search needs)
+    (λ c. search needs)
+    loop-again
+    (λ c. search needs)
+    (λ c. search needs)
+    returns-2)

@@ -8,18 +8,6 @@ use Rattle.reader.proofs.laws.ReadLoop.{padded-none}
 use Rattle.reader.proofs.read.refused.Statement.{statement}
 use Rattle.reader.proofs.read.refused.Tie as tie
 
-no-inputs-requires : tie.Need-no-inputs-requires
-no-inputs-requires c κs = search needs
-
-no-flags-requires : tie.Need-no-flags-requires
-no-flags-requires c κs = search needs
-
-no-latches-requires : tie.Need-no-latches-requires
-no-latches-requires c κs = search needs
-
-no-gates-requires : tie.Need-no-gates-requires
-no-gates-requires c κs = search needs
-
 returns : tie.Need-returns
 unfolding stored emptyCircuit
 returns c = λ x.
@@ -45,4 +33,4 @@ returns c = λ x.
 pub refused-spec : {M : Type 1} → statement M
 refused-spec =
     tie.close
-    (tie.spec no-inputs-requires no-flags-requires no-latches-requires no-gates-requires returns)
+    (tie.spec (λ c κs. search needs) (λ c κs. search needs) (λ c κs. search needs) (λ c κs. search needs) returns)

@@ -1,118 +1,104 @@
 -- `reader::symbols::symbol_lines` meets its contract: what is left of the symbols equals the whole. Assumes nothing.
-use Prim.Native.Nat.{_-_}
 use borrow.Author.Needs.{needs}
+use Prim.Native.Nat.{_+_, _-_, _^_, _<_}
 use lib.ListN.{length, take, drop}
 use mathlib.Core.Path.{subst}
 use native.Mathlib.Omega.{arith}
-use Rattle.reader.proofs.laws.SectionLoop.{line-ends-within}
-use Rattle.reader.proofs.laws.SymbolLoop.{Symbolling, symbolling-starts, symbolling-ends, symbolling-comments, symbolling-refuses, symbolling-goes-on, line-positive}
-use Rattle.lines.specs.SymboledAs.{SymbolAs}
+use Rattle.lines.specs.contracts.Headed.{said}
+use Rattle.lines.specs.contracts.SymboledAs.{SymbolAs}
+use Rattle.reader.proofs.laws.Place.{line-ends-within}
+use Rattle.reader.proofs.laws.SymbolLoop.{Symbolling, symbolling-starts, symbolling-ends, symbolling-comments, symbolling-refuses, symbolling-goes-on}
+use Rattle.reader.proofs.laws.SymbolLoop.{line-positive}
 use Rattle.reader.proofs.symbols.symbol_lines.Statement.{statement}
 use Rattle.reader.proofs.symbols.symbol_lines.Tie as tie
 
 abbrev Inv-loop : tie.InvT-loop
-Inv-loop s inputs latches named₀ flags₀ here₀ named flags here =
-    Symbolling inputs latches s here₀ named flags here
+Inv-loop s h named₀ flags₀ here₀ named flags here = Symbolling (said h) s here₀ named₀ flags₀ named flags here
 
 abbrev μ-loop : tie.MeasureT-loop
-μ-loop s inputs latches named₀ flags₀ here₀ named flags here = length s - here .at
+μ-loop s h named₀ flags₀ here₀ named flags here = length s - here .at
 
 loop-holds : tie.Need-loop-holds Inv-loop μ-loop
 loop-holds c =
     let a = c .before .before .before .args in
-    symbolling-starts (a .inputs) (a .latches) (a .s .now) (a .from) (a .named .now) (a .flags .now) (c .before .before .before .pre)
-
-line-end-requires : tie.Need-line-end-requires Inv-loop μ-loop
-line-end-requires c κs = search needs
-
-sub-symbol-line : tie.Need-sub-symbol-line Inv-loop μ-loop
-sub-symbol-line c = search needs
-
-part-symbol-line-start : tie.Need-part-symbol-line-start Inv-loop μ-loop
-part-symbol-line-start c = search needs
+    symbolling-starts (said (a .h)) (a .s .now) (a .from) (a .named .now) (a .flags .now) (c .before .before .before .pre)
 
 part-symbol-line-end : tie.Need-part-symbol-line-end Inv-loop μ-loop
 part-symbol-line-end c =
-    let a = c .before .before .before .before .before .before .before .args in
     let l = c .before .before .before .loop in
-    line-ends-within (a .s .now) (l .here .at) (c .line-end .result) (c .line-end .ensures) (l .inv .within)
-
-symbol-line-requires : tie.Need-symbol-line-requires Inv-loop μ-loop
-symbol-line-requires c κs = search needs
-
-enum-told : tie.Need-enum-told Inv-loop μ-loop
-enum-told c = search needs
-
-same-length : tie.Need-same-length Inv-loop μ-loop
-same-length c = search needs
-
-same-length-2 : tie.Need-same-length-2 Inv-loop μ-loop
-same-length-2 c = search needs
+    line-ends-within (c .before .before .before .before .before .before .before .args .s .now) (l .here .at) (c .line-end .result) (c .line-end .ensures)
+    (l .inv .within)
 
 returns : tie.Need-returns Inv-loop μ-loop
 returns c =
-    let a = c .before .before .before .before .before .before .before .before .before .before .before .before .args in
-    let l = c .before .before .before .before .before .before .before .before .loop in
+    let c8 = c .before .before .before .before .before .before .before .before in
+    let a = c8 .before .before .before .before .args in
+    let l = c8 .loop in
     let e = c .before .before .before .before .before .line-end in
-    symbolling-comments (a .inputs) (a .latches) (a .s .now) (a .from) (l .named) (l .flags) (l .here) (l .inv) (c .before .before .before .before .before .before .if1 .taken) (e .result) (e .ensures)
-    (subst (SymbolAs (a .inputs) (a .latches) (l .named) (take (e .result - l .here .at) (drop (l .here .at) (a .s .now)))) (c .enum-told .given .1) (c .before .before .symbol-line .ensures))
-
-enum-told-2 : tie.Need-enum-told-2 Inv-loop μ-loop
-enum-told-2 c = search needs
-
-same-length-3 : tie.Need-same-length-3 Inv-loop μ-loop
-same-length-3 c = search needs
-
-same-length-4 : tie.Need-same-length-4 Inv-loop μ-loop
-same-length-4 c = search needs
+    symbolling-comments (said (a .h)) (a .s .now) (a .from) (a .named .now) (a .flags .now) (c8 .before .before .before .before .pre) (l .named) (l .flags)
+    (l .here) (l .inv) (c .before .before .before .before .before .before .if1 .taken) (e .result) (e .ensures)
+    (subst (SymbolAs (said (a .h)) (l .named) (take (e .result - l .here .at) (drop (l .here .at) (a .s .now)))) (c .enum-told .given .1)
+    (c .before .before .symbol-line .ensures))
 
 returns-2 : tie.Need-returns-2 Inv-loop μ-loop
 returns-2 c =
-    let a = c .before .before .before .before .before .before .before .before .before .before .before .before .args in
-    let l = c .before .before .before .before .before .before .before .before .loop in
+    let c8 = c .before .before .before .before .before .before .before .before in
+    let a = c8 .before .before .before .before .args in
+    let l = c8 .loop in
     let e = c .before .before .before .before .before .line-end in
-    symbolling-refuses (a .inputs) (a .latches) (a .s .now) (a .from) (l .named) (l .flags) (l .here) (l .inv) (c .before .before .before .before .before .before .if1 .taken) (e .result) (e .ensures)
-    (subst (SymbolAs (a .inputs) (a .latches) (l .named) (take (e .result - l .here .at) (drop (l .here .at) (a .s .now)))) (c .enum-told2 .given .1) (c .before .before .symbol-line .ensures))
-
-enum-known-slot : tie.Need-enum-known-slot Inv-loop μ-loop
-enum-known-slot c = search needs
-
-set-if-requires : tie.Need-set-if-requires Inv-loop μ-loop
-set-if-requires c κs = search needs
-
-set-if-requires-2 : tie.Need-set-if-requires-2 Inv-loop μ-loop
-set-if-requires-2 c κs = search needs
+    symbolling-refuses (said (a .h)) (a .s .now) (a .from) (a .named .now) (a .flags .now) (c8 .before .before .before .before .pre) (l .named) (l .flags)
+    (l .here) (l .inv) (c .before .before .before .before .before .before .if1 .taken) (e .result) (e .ensures)
+    (subst (SymbolAs (said (a .h)) (l .named) (take (e .result - l .here .at) (drop (l .here .at) (a .s .now)))) (c .enum-told2 .given .1)
+    (c .before .before .symbol-line .ensures))
 
 add-here : tie.Need-add-here Inv-loop μ-loop
-add-here c = search needs
+add-here c =
+    let c8 = c .before .before .before .before .before .before .before .before in
+    let c16 = c8 .before .before .before .before .before .before .before .before in
+    let l = c16 .before .before .loop in
+    let small : l .here .line + 1 < 2 ^ 64 = omega (
+      arith,
+      l .inv .line,
+      l .inv .count,
+      c16 .before .before .before .before .before .before .pre .places,
+      c16 .if1 .taken,
+    ) in
+    search (needs, small)
 
 loop-less : tie.Need-loop-less Inv-loop μ-loop
 loop-less c =
-    let a = c .before .before .before .before .before .before .before .before .before .before .before .before .before .before .before .before .before .before .before .before .before .before .args in
-    let l = c .before .before .before .before .before .before .before .before .before .before .before .before .before .before .before .before .before .before .loop in
-    omega (arith, line-positive (a .s .now) (l .here .at) (c .before .before .before .before .before .before .before .before .before .before .before .before .before .before .before .before .if1 .taken), c .before .before .before .before .before .before .before .before .before .before .before .before .before .before .before .line-end .ensures, c .before .before .before .before .before .before .before .before .before .before .before .before .before .before .before .before .if1 .taken)
+    let c8 = c .before .before .before .before .before .before .before .before in
+    let c16 = c8 .before .before .before .before .before .before .before .before in
+    let l = c16 .before .before .loop in
+    omega (
+      arith,
+      line-positive (c16 .before .before .before .before .before .before .args .s .now) (l .here .at) (c16 .if1 .taken),
+      c8 .before .before .before .before .before .before .before .line-end .ensures,
+      c16 .if1 .taken,
+    )
 
 loop-again : tie.Need-loop-again Inv-loop μ-loop
 loop-again c =
-    let a = c .before .before .before .before .before .before .before .before .before .before .before .before .before .before .before .before .before .before .before .before .before .before .args in
-    let l = c .before .before .before .before .before .before .before .before .before .before .before .before .before .before .before .before .before .before .loop in
-    let e = c .before .before .before .before .before .before .before .before .before .before .before .before .before .before .before .line-end in
-    let g = c .before .before .before .before .before .before .before .before .before .before .slot .given in
-    symbolling-goes-on (a .inputs) (a .latches) (a .s .now) (a .from) (l .named) (l .flags) (l .here) (l .inv) (c .before .before .before .before .before .before .before .before .before .before .before .before .before .before .before .before .if1 .taken) (e .result) (e .ensures) (c .before .before .before .before .before .before .before .before .before .before .before .before .before .before .before .before .before .before .before .before .before .before .pre .inputs-most) (c .before .before .before .before .before .before .before .before .before .before .before .before .before .before .before .before .before .before .before .before .before .before .pre .latches-most)
-    (g .0 .0) (g .0 .1 .0) (g .0 .1 .1 .0) (c .before .before .before .before .before .before .before .set-if .last .1 .0) (c .before .before .before .set-if2 .last .1 .0)
-    (subst (SymbolAs (a .inputs) (a .latches) (l .named) (take (e .result - l .here .at) (drop (l .here .at) (a .s .now)))) (g .1) (c .before .before .before .before .before .before .before .before .before .before .before .before .symbol-line .ensures)) (c .before .before .before .before .before .before .before .set-if .ensures) (c .before .before .before .set-if2 .ensures)
-
-same-length-5 : tie.Need-same-length-5 Inv-loop μ-loop
-same-length-5 c = search needs
-
-same-length-6 : tie.Need-same-length-6 Inv-loop μ-loop
-same-length-6 c = search needs
+    let c8 = c .before .before .before .before .before .before .before .before in
+    let c16 = c8 .before .before .before .before .before .before .before .before in
+    let a = c16 .before .before .before .before .before .before .args in
+    let l = c16 .before .before .loop in
+    let e = c8 .before .before .before .before .before .before .before .line-end in
+    let g = c8 .before .before .slot .given in
+    symbolling-goes-on (said (a .h)) (a .s .now) (a .from) (a .named .now) (a .flags .now) (c16 .before .before .before .before .before .before .pre)
+    (l .named) (l .flags) (l .here) (l .inv) (c16 .if1 .taken) (e .result) (e .ensures)
+    (g .0 .0) (g .0 .1 .0) (g .0 .1 .1 .0) (c .before .before .before .before .before .before .before .set-if .last .1 .0)
+    (c .before .before .before .set-if2 .last .1 .0)
+    (subst (SymbolAs (said (a .h)) (l .named) (take (e .result - l .here .at) (drop (l .here .at) (a .s .now)))) (g .1)
+    (c8 .before .before .before .before .symbol-line .ensures)) (c .before .before .before .before .before .before .before .set-if .ensures)
+    (c .before .before .before .set-if2 .ensures)
 
 returns-3 : tie.Need-returns-3 Inv-loop μ-loop
 returns-3 c =
     let a = c .before .before .before .before .before .before .args in
     let l = c .before .before .loop in
-    symbolling-ends (a .inputs) (a .latches) (a .s .now) (a .from) (l .named) (l .flags) (l .here) (l .inv) (c .if1 .left)
+    symbolling-ends (said (a .h)) (a .s .now) (a .from) (a .named .now) (a .flags .now) (c .before .before .before .before .before .before .pre) (l .named)
+    (l .flags) (l .here) (l .inv) (c .if1 .left)
 
 pub symbol-lines-spec : {M : Type 1} → statement M
 symbol-lines-spec =
@@ -121,25 +107,25 @@ symbol-lines-spec =
     Inv-loop
     μ-loop
     loop-holds
-    line-end-requires
-    sub-symbol-line
-    part-symbol-line-start
+    (λ c κs. search needs)
+    (λ c. search needs)
+    (λ c. search needs)
     part-symbol-line-end
-    symbol-line-requires
-    enum-told
-    same-length
-    same-length-2
+    (λ c κs. search needs)
+    (λ c. search needs)
+    (λ c. search needs)
+    (λ c. search needs)
     returns
-    enum-told-2
-    same-length-3
-    same-length-4
+    (λ c. search needs)
+    (λ c. search needs)
+    (λ c. search needs)
     returns-2
-    enum-known-slot
-    set-if-requires
-    set-if-requires-2
+    (λ c. search needs)
+    (λ c κs. search needs)
+    (λ c κs. search needs)
     add-here
     loop-less
     loop-again
-    same-length-5
-    same-length-6
+    (λ c. search needs)
+    (λ c. search needs)
     returns-3)

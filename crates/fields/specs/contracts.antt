@@ -1,0 +1,4 @@
+pub mod Marks
+pub mod NumberAt
+pub mod RowAt
+pub mod WellNamed

@@ -1,0 +1,48 @@
+-- `lines::body::fault_of` meets its contract: the tests of the form, the first that applies. Assumes nothing.
+use borrow.Author.Needs.{needs}
+use Rattle.lines.specs.contracts.Kinds.{faultOf}
+use Rattle.lines.proofs.body.fault_of.Statement.{statement}
+use Rattle.lines.proofs.body.fault_of.Tie as tie
+
+returns : tie.Need-returns
+unfolding faultOf
+returns c =
+    let c8 = c .before .before .before .before .before .before .before .before in
+    rw (
+      c .first-of .ensures,
+      c .before .either4 .ensures,
+      c8 .both .ensures,
+      c8 .before .bad-own .ensures,
+      c8 .before .before .either2 .ensures,
+      c8 .before .before .before .either .ensures,
+      c8 .before .before .before .before .before .before .too-large .ensures,
+      c8 .before .before .before .before .before .too-large2 .ensures,
+      c8 .before .before .before .before .too-large3 .ensures,
+      c .before .before .before .before .before .before .both2 .ensures,
+      c .before .before .before .before .before .before .before .is-marked .ensures,
+      c .before .before .both3 .ensures,
+      c .before .before .before .either3 .ensures,
+      c .before .before .before .before .before .is-unknown .ensures,
+      c .before .before .before .before .is-unknown2 .ensures,
+    )
+
+pub fault-of-spec : {M : Type 1} → statement M
+fault-of-spec =
+    tie.close
+    (tie.spec
+    (λ c κs. search needs)
+    (λ c κs. search needs)
+    (λ c κs. search needs)
+    (λ c κs. search needs)
+    (λ c κs. search needs)
+    (λ c κs. search needs)
+    (λ c κs. search needs)
+    (λ c κs. search needs)
+    (λ c κs. search needs)
+    (λ c κs. search needs)
+    (λ c κs. search needs)
+    (λ c κs. search needs)
+    (λ c κs. search needs)
+    (λ c κs. search needs)
+    (λ c κs. search needs)
+    returns)

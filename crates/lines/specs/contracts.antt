@@ -1,0 +1,5 @@
+pub mod Headed
+pub mod Kinds
+pub mod LinedAs
+pub mod Named
+pub mod SymboledAs

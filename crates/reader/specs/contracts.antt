@@ -1,0 +1,9 @@
+pub mod AllLines
+pub mod BodyAs
+pub mod CountedAs
+pub mod LinesAs
+pub mod Rows
+pub mod SymbolsAs
+pub mod TextAs
+pub mod UsedAs
+pub mod ValueOf
