@@ -3,6 +3,7 @@ pub mod Position
 pub mod PositionNumber
 pub mod PositionFields
 pub mod RowLoop
+pub mod Truth
 pub mod PositionSymbol
 pub mod Picked
 pub mod Decided

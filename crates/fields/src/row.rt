@@ -19,16 +19,16 @@ fn field_at(s: &[u8], at: usize) -> Field
         Num::Bad => Field::Bad,
         Num::Is(v, next) => {
             let behind = byte_at(s, next);
-            if behind == 32 {
-                return Field::More(v, next + 1);
-            }
-            if behind == 10 {
-                if next + 1 == s.len() {
-                    return Field::Last(v);
+            match behind {
+                32 => Field::More(v, next + 1),
+                10 => {
+                    if next + 1 == s.len() {
+                        return Field::Last(v);
+                    }
+                    Field::Bad
                 }
-                return Field::Bad;
+                _ => Field::Bad,
             }
-            Field::Bad
         }
     }
 }

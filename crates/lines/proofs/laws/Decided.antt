@@ -22,33 +22,43 @@ use Rattle.lines.specs.declared.body.Lined.{Lined}
 use Rattle.lines.specs.declared.body.Lined.the-variants.{Row, Fault}
 use Rattle.lines.specs.declared.symbol.Symboled.{Symboled}
 use Rattle.lines.specs.declared.symbol.Symboled.the-variants.{Comment, Of, Bad}
+use Rattle.fields.specs.contracts.Marks.{Marks}
 use Rattle.text.specs.Header.{Header}
+use Rattle.text.specs.Line.{numbersOf}
+use Rattle.text.specs.Section.{judged}
 use Rattle.text.specs.Rules.{Rule}
 use Rattle.text.specs.Symbol.{Symbol, inputLetter, latchLetter, outputLetter, names, positions, isControllableName}
+use Rattle.fields.proofs.laws.Truth.{or-false}
 
 -- the marks say which variables are defined, and so the rule judges the line in one way
+agree : (rule : Rule) (marks line : List ℕ) (f g : ℕ → Outcome (List ℕ))
+    → ((defined : List ℕ) (place : ℕ) → Marks marks defined → judged rule defined place (numbersOf (rule .count) line) ≡ f place)
+    → ((defined : List ℕ) (place : ℕ) → Marks marks defined → judged rule defined place (numbersOf (rule .count) line) ≡ g place) → f 0 ≡ g 0
+agree rule marks line f g v w = sym (v (definedBy marks) 0 (marks-say marks)) ∙ w (definedBy marks) 0 (marks-say marks)
+
 pub lined-decided : (largest : ℕ) (rule : Rule) (marks line : List ℕ) (r q : Lined) → LinedAs largest rule marks line r → LinedAs largest rule marks line q
     → r ≡ q
 lined-decided largest rule marks line (Row a b c) (Row d e f) (v, l) (w, m) =
     let xs = a ∷ b ∷ c ∷ [] in
     let ys = d ∷ e ∷ f ∷ [] in
-    let told : taken (take (rule .count) xs) ≡ taken (take (rule .count) ys) = sym (v (definedBy marks) 0 (marks-say marks))
-    ∙ w (definedBy marks) 0 (marks-say marks) in
+    let told = agree rule marks line (λ p. taken (take (rule .count) xs)) (λ p. taken (take (rule .count) ys)) v w in
     let front : take (rule .count) xs ≡ take (rule .count) ys = cc in
     let all : xs ≡ ys = same-numbers (rule .count) xs ys refl front (l .others) (m .others) in
     cc
-lined-decided largest rule marks line (Row a b c) (Fault n) (v, l) w = let told : taken (take (rule .count) (a ∷ b ∷ c ∷ [])) ≡ refused n 0 = sym
-    (v (definedBy marks) 0 (marks-say marks)) ∙ w (definedBy marks) 0 (marks-say marks) in cc
-lined-decided largest rule marks line (Fault n) (Row a b c) v (w, l) = let told : refused n 0 ≡ taken (take (rule .count) (a ∷ b ∷ c ∷ [])) = sym
-    (v (definedBy marks) 0 (marks-say marks)) ∙ w (definedBy marks) 0 (marks-say marks) in cc
-lined-decided largest rule marks line (Fault n) (Fault k) v w = let told : _≡_ {A = Outcome (List ℕ)} (refused n 0) (refused k 0) = sym
-    (v (definedBy marks) 0 (marks-say marks)) ∙ w (definedBy marks) 0 (marks-say marks) in ap {B = Lined} Fault cc
+lined-decided largest rule marks line (Row a b c) (Fault n) (v, l) w =
+    let told = agree rule marks line (λ p. taken (take (rule .count) (a ∷ b ∷ c ∷ []))) (refused n) v w in
+    cc
+lined-decided largest rule marks line (Fault n) (Row a b c) v (w, l) =
+    let told = agree rule marks line (refused n) (λ p. taken (take (rule .count) (a ∷ b ∷ c ∷ []))) v w in
+    cc
+lined-decided largest rule marks line (Fault n) (Fault k) v w =
+    let told = agree rule marks line (refused n) (refused k) v w in
+    ap {B = Lined} Fault cc
 
 -- the header's five numbers
 pub header-decided : (line : List ℕ) (r q : Headed) → HeadedAs line r → HeadedAs line q → r ≡ q
 header-decided line (Is v) (Is w) e f =
-    let told : some (v .largest ∷ v .inputs ∷ v .latches ∷ v .outputs ∷ v .gates ∷ []) ≡ some
-    (w .largest ∷ w .inputs ∷ w .latches ∷ w .outputs ∷ w .gates ∷ []) = sym e ∙ f in
+    let told = sym e ∙ f in
     let m : v .largest ≡ w .largest = cc in
     let i : v .inputs ≡ w .inputs = cc in
     let l : v .latches ≡ w .latches = cc in
@@ -67,17 +77,19 @@ module _ (h : Header) (marks : List ℕ) where
   symbolFor : ℕ → ℕ → Symbol
   symbolFor letter position = record { letter = letter; position = position; name = [] }
 
+  abbrev of : ℕ → ℕ → List Symbol
+  of letter n = picked (isNamed letter) (symbolFor letter) n
+
   namedBy : List Symbol
-  namedBy = picked (isNamed inputLetter) (symbolFor inputLetter) (h .inputs) ++ (picked (isNamed latchLetter) (symbolFor latchLetter) (h .latches) ++ picked
-      (isNamed outputLetter) (symbolFor outputLetter) (h .outputs))
+  namedBy = of inputLetter (h .inputs) ++ (of latchLetter (h .latches) ++ of outputLetter (h .outputs))
 
   -- a position among the symbols of its own letter, and among those of another
-  own : (letter position n : ℕ) → position < n → among (names letter position) (picked (isNamed letter) (symbolFor letter) n) ≡ isNamed letter position
+  own : (letter position n : ℕ) → position < n → among (names letter position) (of letter n) ≡ isNamed letter position
   unfolding names symbolFor
   own letter position n l = picked-one (isNamed letter) (symbolFor letter) (names letter position) position (λ j. rw (eq-eqb letter letter refl)) n
       ∙ rw (lt-ltb position n l)
 
-  other : (letter position k n : ℕ) → eqb k letter ≡ false → among (names letter position) (picked (isNamed k) (symbolFor k) n) ≡ false
+  other : (letter position k n : ℕ) → eqb k letter ≡ false → among (names letter position) (of k n) ≡ false
   unfolding names symbolFor
   other letter position k n e = picked-none (isNamed k) (symbolFor k) (names letter position) (λ j. rw e) n
 
@@ -85,46 +97,33 @@ module _ (h : Header) (marks : List ℕ) where
   unfolding Named namedBy isNamed positions
   marks-name letter position low = by (eqb letter inputLetter) (eqb letter latchLetter) (eqb letter outputLetter) refl refl refl low
     where
-      all : (k : ℕ) → among (names k position) namedBy ≡ (among (names k position) (picked (isNamed inputLetter) (symbolFor inputLetter) (h .inputs)) ||
-          (among (names k position) (picked (isNamed latchLetter) (symbolFor latchLetter) (h .latches)) || among (names k position)
-          (picked (isNamed outputLetter) (symbolFor outputLetter) (h .outputs))))
+      all : (k : ℕ) → among (names k position) namedBy ≡ (among (names k position) (of inputLetter (h .inputs))
+          || (among (names k position) (of latchLetter (h .latches)) || among (names k position) (of outputLetter (h .outputs))))
       all k =
-          among-append (names k position) (picked (isNamed inputLetter) (symbolFor inputLetter) (h .inputs))
-          (picked (isNamed latchLetter) (symbolFor latchLetter) (h .latches) ++ picked (isNamed outputLetter) (symbolFor outputLetter) (h .outputs))
-          ∙ ap (λ (b : Bool). among (names k position) (picked (isNamed inputLetter) (symbolFor inputLetter) (h .inputs)) || b)
-          (among-append (names k position) (picked (isNamed latchLetter) (symbolFor latchLetter) (h .latches))
-          (picked (isNamed outputLetter) (symbolFor outputLetter) (h .outputs)))
-
-      or-false : (b : Bool) → (b || false) ≡ b
-      or-false true = refl
-      or-false false = refl
+          among-append (names k position) (of inputLetter (h .inputs)) (of latchLetter (h .latches) ++ of outputLetter (h .outputs))
+          ∙ ap (λ (b : Bool). among (names k position) (of inputLetter (h .inputs)) || b)
+          (among-append (names k position) (of latchLetter (h .latches)) (of outputLetter (h .outputs)))
 
       so : (k : ℕ) → letter ≡ k → isNamed k position ≡ among (names k position) namedBy → isNamed letter position ≡ among (names letter position) namedBy
       so k e f = subst (λ (m : ℕ). isNamed m position ≡ among (names m position) namedBy) (sym e) f
 
       by : (a b c : Bool) → eqb letter inputLetter ≡ a → eqb letter latchLetter ≡ b → eqb letter outputLetter ≡ c
           → position < cond a (h .inputs) (cond b (h .latches) (cond c (h .outputs) 0)) → isNamed letter position ≡ among (names letter position) namedBy
-      by true b c e f g l = so inputLetter (eqb-true _ _ e) (sym (all inputLetter
-          ∙ rw (
-            own inputLetter position (h .inputs) l,
-            other inputLetter position latchLetter (h .latches) refl,
-            other inputLetter position outputLetter
-                (h .outputs) refl,
-          ) (or-false (isNamed inputLetter position))))
-      by false true c e f g l = so latchLetter (eqb-true _ _ f) (sym (all latchLetter
-          ∙ rw (
-            other latchLetter position inputLetter (h .inputs) refl,
-            own latchLetter position (h .latches) l,
-            other latchLetter position outputLetter
-                (h .outputs) refl,
-          ) (or-false (isNamed latchLetter position))))
-      by false false true e f g l = so outputLetter (eqb-true _ _ g) (sym (all outputLetter
-          ∙ rw (
-            other outputLetter position inputLetter (h .inputs) refl,
-            other outputLetter position latchLetter (h .latches) refl,
-            own outputLetter position
-                (h .outputs) l,
-          )))
+      by true b c e f g l =
+          let mine = own inputLetter position (h .inputs) l in
+          let two = other inputLetter position latchLetter (h .latches) refl in
+          let three = other inputLetter position outputLetter (h .outputs) refl in
+          so inputLetter (eqb-true _ _ e) (sym (all inputLetter ∙ rw (mine, two, three) (or-false (isNamed inputLetter position))))
+      by false true c e f g l =
+          let one = other latchLetter position inputLetter (h .inputs) refl in
+          let mine = own latchLetter position (h .latches) l in
+          let three = other latchLetter position outputLetter (h .outputs) refl in
+          so latchLetter (eqb-true _ _ f) (sym (all latchLetter ∙ rw (one, mine, three) (or-false (isNamed latchLetter position))))
+      by false false true e f g l =
+          let one = other outputLetter position inputLetter (h .inputs) refl in
+          let two = other outputLetter position latchLetter (h .latches) refl in
+          let mine = own outputLetter position (h .outputs) l in
+          so outputLetter (eqb-true _ _ g) (sym (all outputLetter ∙ rw (one, two, mine)))
       by false false false e f g l = absurd (omega arith)
 
   pub symbol-decided : (line : List ℕ) (r q : Symboled) → SymbolAs h marks line r → SymbolAs h marks line q → r ≡ q

@@ -19,6 +19,7 @@ use Rattle.lines.specs.declared.kind.Kind.{Kind}
 use Rattle.lines.specs.declared.kind.Kind.the-variants.{Input, Latch, Output, Gate}
 use Rattle.text.specs.Line.{numbersOf}
 use Rattle.text.specs.Rules.{Rule, firstOf, badOwn, inputRule, latchRule, outputRule, gateRule}
+use Rattle.fields.proofs.laws.Truth.{or-false}
 
 -- a line without its numbers
 lined-malformed : (largest : ℕ) (rule : Rule) (marks line : List ℕ) → numbersOf (rule .count) line ≡ none → LinedAs largest rule marks line (Fault 4)
@@ -60,10 +61,6 @@ module _ (M : ℕ) (marks : List ℕ) where
   unfolding unmarked constant
   none-unknown = refl
 
-  or-false : (b : Bool) → (b || false) ≡ b
-  or-false true = refl
-  or-false false = refl
-
   -- a literal that is too large is bad also where it doesn't define
   own-and-large : (t n x y : Bool) → ((t || n) || (t || (x || y))) ≡ ((t || n) || x || y)
   own-and-large true n x y = refl
@@ -78,21 +75,18 @@ module _ (M : ℕ) (marks : List ℕ) where
       → ruleOf k M .fault defined (take (ruleOf k M .count) (a ∷ b ∷ c ∷ [])) ≡ faultOf (formOf k) M marks a b c
   unfolding inputRule latchRule outputRule gateRule faultOf
   kind-fault Input defined m a b c others =
+      let second : b ≡ 0 = others 1 (omega arith) in
+      let third : c ≡ 0 = others 2 (omega arith) in
       input-fault M marks defined m a
-      ∙ ap (λ (x : Bool). firstOf x (marked marks a) false) (sym (fives a b c ∙ rw (
-        others 1 (omega arith),
-        others 2 (omega arith),
-        none-large,
-        or-false
-            (badOwn M a),
-      ) (or-false (badOwn M a))))
+      ∙ ap (λ (x : Bool). firstOf x (marked marks a) false) (sym (fives a b c ∙ rw (second, third, none-large, or-false (badOwn M a)) (or-false (badOwn M a))))
   kind-fault Latch defined m a b c others =
       latch-fault M marks defined m a b
-      ∙ ap (λ (x : Bool). firstOf x (marked marks a) false) (sym (fives a b c ∙ rw (others 2 (omega arith), none-large)
-      (or-false (badOwn M a || tooLarge M b))))
+      ∙ ap (λ (x : Bool). firstOf x (marked marks a) false)
+      (sym (fives a b c ∙ rw (others 2 (omega arith), none-large) (or-false (badOwn M a || tooLarge M b))))
   kind-fault Output defined m a b c others =
-      output-fault M marks defined m a
-      ∙ ap (λ (x : Bool). firstOf x false false) (sym (rw (others 1 (omega arith), others 2 (omega arith), none-large) (or-false (tooLarge M a))))
+      let second : b ≡ 0 = others 1 (omega arith) in
+      let third : c ≡ 0 = others 2 (omega arith) in
+      output-fault M marks defined m a ∙ ap (λ (x : Bool). firstOf x false false) (sym (rw (second, third, none-large) (or-false (tooLarge M a))))
   kind-fault Gate defined m a b c others =
       gate-fault M marks defined m a b c
       ∙ ap (λ (x : Bool). firstOf x (marked marks a) (unmarked marks b || unmarked marks c)) (sym (fives a b c))

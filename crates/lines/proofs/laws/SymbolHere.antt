@@ -18,6 +18,7 @@ use Rattle.text.specs.Symbol.{Symbol, inputLetter, prefix, isNameByte, names, p
 use Rattle.lines.specs.contracts.Named.{Named, slotOf}
 use Rattle.fields.specs.contracts.WellNamed.{wellNamed}
 use Rattle.lines.specs.contracts.SymboledAs.{IsSymbol, SymbolAt, SymbolAs}
+use Rattle.fields.proofs.laws.Truth.{and-true}
 
 -- each byte of a string passes
 abbrev AllPass : (ℕ → Bool) → List ℕ → Type 0
@@ -87,10 +88,6 @@ module _ (h : Header) (marks : List ℕ) (letter position : ℕ) (line : List �
               ∙ ap (λ (x : Bool). eqb letter inputLetter && x) (sym (eq-eqb position position refl)))
               (sym (starts-run isNameByte prefix (drop 1 (drop next line)) controllable-bytes ∙ ap (startsWith prefix) (drop-drop 1 next line)));
         }
-      where
-        and-true : (b : Bool) → (b && true) ≡ b
-        and-true true = refl
-        and-true false = refl
 
 -- from behind the number to the whole line
 pub symbol-whole : (h : Header) (marks : List ℕ) (letter position : ℕ) (text line : List ℕ) (r : Symboled) → SymbolAt h marks letter position text r

@@ -34,6 +34,7 @@ use Rattle.text.specs.Rules.{inputRule, latchRule, outputRule, gateRule}
 use Rattle.text.specs.Section.{Body, judged, withRow}
 use Rattle.text.specs.Stages.{unread}
 use Rattle.reader.proofs.laws.Place.{line-part, line-ends-within}
+use Rattle.fields.proofs.laws.Truth.{or-false, or-true}
 
 -- where nothing is marked, nothing is defined
 marks-nothing : (marks : List ℕ) → ((i : ℕ) → getD marks i 0 ≡ 0) → Marks marks []
@@ -45,14 +46,6 @@ mark-more : (marks defined : List ℕ) (v : ℕ) → v < length marks → Marks 
 unfolding Marks
 mark-more marks defined v h says w = elim (ℕ-discrete w v) [ yes e ↦ same e | no d ↦ other d ] ∙ sym (member-snoc w defined v)
   where
-    or-true : (b : Bool) → (b || true) ≡ true
-    or-true true = refl
-    or-true false = refl
-
-    or-false : (b : Bool) → (b || false) ≡ b
-    or-false true = refl
-    or-false false = refl
-
     same : w ≡ v → eqb (getD (set marks v 1) w 0) 1 ≡ (member w defined || eqb w v)
     same e = rw (e, getD-set-same marks v 1 0 h, eq-eqb v v refl) (sym (or-true (member v defined)))
 

@@ -197,15 +197,11 @@ module _ (h : Header) (rows flags : List ℕ) (behind : Symbols) (few : Few h) (
 
       front-long : length front ≡ h .inputs
       front-long =
-          length-take (h .inputs) (padded (base .inputs) (columnOf rows 0 (h .inputs) 0))
-          ∙ omega (
-            arith,
-            few .inputs,
-            length-take (base .inputs) (columnOf rows 0 (h .inputs) 0 ++ replicate (base .inputs) 0),
-            length-append
-                (columnOf rows 0 (h .inputs) 0) (replicate (base .inputs) 0),
-            length-replicate {A = ℕ} (base .inputs) 0,
-          )
+          let column = columnOf rows 0 (h .inputs) 0 in
+          let zeros = replicate {A = ℕ} (base .inputs) 0 in
+          let long = length-take (base .inputs) (column ++ zeros) in
+          length-take (h .inputs) (padded (base .inputs) column)
+          ∙ omega (arith, few .inputs, long, length-append column zeros, length-replicate {A = ℕ} (base .inputs) 0)
 
       flag : (i : ℕ) → i < h .inputs → not (eqb (getD (take (h .inputs) flags) i 0) 0) ≡ isControllable (behind .symbols) i
       flag i l = ap (λ (n : ℕ). not (eqb n 0)) (getD-take (h .inputs) flags i 0 l ∙ flagged .says i l) ∙ flag-is (isControllable (behind .symbols) i)

@@ -28,6 +28,7 @@ use Rattle.reader.specs.contracts.SymbolsAs.{Flags, SymbolRoom, SymbolsR
 use Rattle.lines.specs.contracts.SymboledAs.{SymbolAs}
 use Rattle.fields.proofs.laws.Position.{first-line-cons, lines-behind}
 use Rattle.reader.proofs.laws.Place.{line-part, line-ends-within}
+use Rattle.fields.proofs.laws.Truth.{or-false, or-true}
 
 -- a text that isn't empty has a first line, which isn't empty, and the others stand behind it
 some-line : (t : List ℕ) → 0 < length t → 0 < length (lines t)
@@ -89,14 +90,6 @@ slot-below h k p (input a b c) = omega arith
 slot-below h k p (latch a b c) = omega arith
 slot-below h k p (output a b c) = omega arith
 
-or-true : (b : Bool) → (b || true) ≡ true
-or-true true = refl
-or-true false = refl
-
-or-false : (b : Bool) → (b || false) ≡ b
-or-false true = refl
-or-false false = refl
-
 module _ (h : Header) (s : Symbol) (below : s .position < positions h (s .letter)) where
   -- one more symbol is marked
   named-more : (marks : List ℕ) (seen : List Symbol) → h .inputs + h .latches + h .outputs ≤ length marks → Named h marks seen
@@ -111,26 +104,22 @@ module _ (h : Header) (s : Symbol) (below : s .position < positions h (s .letter
       yours : Valid h letter position
       yours = valid h letter position low
 
-      same : slotOf h letter position ≡ slotOf h (s .letter) (s .position) → eqb
-          (getD (set marks (slotOf h (s .letter) (s .position)) 1) (slotOf h letter position) 0)
+      slot : ℕ
+      slot = slotOf h (s .letter) (s .position)
+
+      same : slotOf h letter position ≡ slot → eqb (getD (set marks slot 1) (slotOf h letter position) 0)
           1 ≡ (among (names letter position) seen || names letter position s)
       same e =
           let (l, p) = one-slot h letter position (s .letter) (s .position) yours mine e in
-          rw (
-            e,
-            getD-set-same marks (slotOf h (s .letter) (s .position)) 1 0 (omega (arith, slot-below h (s .letter) (s .position) mine)),
-            eq-eqb (s .letter)
-                letter (sym l),
-            eq-eqb (s .position) position (sym p),
-          ) (sym (or-true (among (names letter position) seen)))
+          let set-it = getD-set-same marks slot 1 0 (omega (arith, slot-below h (s .letter) (s .position) mine)) in
+          rw (e, set-it, eq-eqb (s .letter) letter (sym l), eq-eqb (s .position) position (sym p)) (sym (or-true (among (names letter position) seen)))
 
-      other : (slotOf h letter position ≡ slotOf h (s .letter) (s .position) → ⊥)
-          → eqb (getD (set marks (slotOf h (s .letter) (s .position)) 1) (slotOf h letter position) 0)
+      other : (slotOf h letter position ≡ slot → ⊥) → eqb (getD (set marks slot 1) (slotOf h letter position) 0)
           1 ≡ (among (names letter position) seen || names letter position s)
-      other d = rw (getD-set-other marks (slotOf h (s .letter) (s .position)) (slotOf h letter position) 1 0 d, unnamed d)
+      other d = rw (getD-set-other marks slot (slotOf h letter position) 1 0 d, unnamed d)
           (says letter position low ∙ sym (or-false (among (names letter position) seen)))
         where
-          unnamed : (slotOf h letter position ≡ slotOf h (s .letter) (s .position) → ⊥) → names letter position s ≡ false
+          unnamed : (slotOf h letter position ≡ slot → ⊥) → names letter position s ≡ false
           unnamed d′ = by (names letter position s) refl
             where
               by : (b : Bool) → names letter position s ≡ b → names letter position s ≡ false

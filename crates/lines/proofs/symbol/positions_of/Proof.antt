@@ -11,11 +11,9 @@ returns c = rw (eq-eqb (c .before .before .args .letter) 105 (c .before .if1 .ta
 
 returns-2 : tie.Need-returns-2
 unfolding positions
-returns-2 c = rw (
-  ne-eqb (c .before .before .before .args .letter) 105 (c .before .before .if1 .left),
-  eq-eqb (c .before .before .before .args .letter) 108
-      (c .before .if2 .taken),
-)
+returns-2 c =
+    let l = c .before .before .before .args .letter in
+    rw (ne-eqb l 105 (c .before .before .if1 .left), eq-eqb l 108 (c .before .if2 .taken))
 
 returns-3 : tie.Need-returns-3
 unfolding positions

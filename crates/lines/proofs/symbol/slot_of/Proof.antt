@@ -11,19 +11,15 @@ returns c = rw (eq-eqb (c .before .args .letter) 105 (c .if1 .taken))
 
 returns-2 : tie.Need-returns-2
 unfolding slotOf
-returns-2 c = rw (
-  ne-eqb (c .before .before .before .args .letter) 105 (c .before .before .if1 .left),
-  eq-eqb (c .before .before .before .args .letter) 108
-      (c .before .if2 .taken),
-)
+returns-2 c =
+    let l = c .before .before .before .args .letter in
+    rw (ne-eqb l 105 (c .before .before .if1 .left), eq-eqb l 108 (c .before .if2 .taken))
 
 returns-3 : tie.Need-returns-3
 unfolding slotOf
-returns-3 c = rw (
-  ne-eqb (c .before .before .before .before .args .letter) 105 (c .before .before .before .if1 .left),
-  ne-eqb
-      (c .before .before .before .before .args .letter) 108 (c .before .before .if2 .left),
-)
+returns-3 c =
+    let l = c .before .before .before .before .args .letter in
+    rw (ne-eqb l 105 (c .before .before .before .if1 .left), ne-eqb l 108 (c .before .before .if2 .left))
 
 pub slot-of-spec : {M : Type 1} → statement M
 slot-of-spec =

@@ -80,12 +80,8 @@ add-here c =
     let c8 = c .before .before .before .before .before .before .before .before in
     let c16 = c8 .before .before .before .before .before .before .before .before in
     let l = c16 .before .before .loop in
-    let small : l .here .line + 1 < 2 ^ 64 = omega (
-      arith,
-      l .inv .line,
-      l .inv .count,
-      c16 .before .before .before .before .before .before .before .pre .places,
-    ) in
+    let p = c16 .before .before .before .before .before .before .before .pre in
+    let small : l .here .line + 1 < 2 ^ 64 = omega (arith, l .inv .line, l .inv .count, p .places) in
     search (needs, small)
 
 loop-again : tie.Need-loop-again Inv-loop μ-loop

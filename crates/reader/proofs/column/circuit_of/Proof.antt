@@ -14,39 +14,31 @@ input-column-requires : tie.Need-input-column-requires
 input-column-requires c κs = (omega (arith, c .before .before .before .before .pre .inside), c .before .before .before .before .pre .few .inputs)
 
 latch-column-requires : tie.Need-latch-column-requires
-latch-column-requires c κs = (
-  omega (arith, c .before .before .before .before .before .pre .inside),
-  omega arith,
-  c .before .before .before .before .before .pre .few .latches,
-)
+latch-column-requires c κs =
+    let p = c .before .before .before .before .before .pre in
+    (omega (arith, p .inside), omega arith, p .few .latches)
 
 latch-column-requires-2 : tie.Need-latch-column-requires-2
-latch-column-requires-2 c κs = (
-  omega (arith, c .before .before .before .before .before .before .pre .inside),
-  omega arith,
-  c .before .before .before .before .before .before .pre .few .latches,
-)
+latch-column-requires-2 c κs =
+    let p = c .before .before .before .before .before .before .pre in
+    (omega (arith, p .inside), omega arith, p .few .latches)
 
 gate-column-requires : tie.Need-gate-column-requires
-gate-column-requires c κs = (
-  omega (arith, c .before .before .before .before .before .before .before .pre .inside),
-  omega arith,
-  omega (
-    arith,
-    c .before .before .before .before .before .before .before .pre .few .gates,
-    c .before .before .before .before .before .before .before .pre .few .largest,
-  ),
-)
+gate-column-requires c κs =
+    let p = c .before .before .before .before .before .before .before .pre in
+    (omega (arith, p .inside), omega arith, omega (arith, p .few .gates, p .few .largest))
 
 gate-column-requires-2 : tie.Need-gate-column-requires-2
 gate-column-requires-2 c κs =
     let c8 = c .before .before .before .before .before .before .before .before in
-    (omega (arith, c8 .pre .inside), omega arith, omega (arith, c8 .pre .few .gates, c8 .pre .few .largest))
+    let p = c8 .pre in
+    (omega (arith, p .inside), omega arith, omega (arith, p .few .gates, p .few .largest))
 
 gate-column-requires-3 : tie.Need-gate-column-requires-3
 gate-column-requires-3 c κs =
     let c8 = c .before .before .before .before .before .before .before .before in
-    (omega (arith, c8 .before .pre .inside), omega arith, omega (arith, c8 .before .pre .few .gates, c8 .before .pre .few .largest))
+    let p = c8 .before .pre in
+    (omega (arith, p .inside), omega arith, omega (arith, p .few .gates, p .few .largest))
 
 cast-t15 : tie.Need-cast-t15
 cast-t15 c =

@@ -56,13 +56,8 @@ add-here c =
     let c8 = c .before .before .before .before .before .before .before .before in
     let c16 = c8 .before .before .before .before .before .before .before .before in
     let l = c16 .before .before .loop in
-    let small : l .here .line + 1 < 2 ^ 64 = omega (
-      arith,
-      l .inv .line,
-      l .inv .count,
-      c16 .before .before .before .before .before .before .pre .places,
-      c16 .if1 .taken,
-    ) in
+    let p = c16 .before .before .before .before .before .before .pre in
+    let small : l .here .line + 1 < 2 ^ 64 = omega (arith, l .inv .line, l .inv .count, p .places, c16 .if1 .taken) in
     search (needs, small)
 
 loop-less : tie.Need-loop-less Inv-loop μ-loop
@@ -70,11 +65,12 @@ loop-less c =
     let c8 = c .before .before .before .before .before .before .before .before in
     let c16 = c8 .before .before .before .before .before .before .before .before in
     let l = c16 .before .before .loop in
+    let more = c16 .if1 .taken in
     omega (
       arith,
-      line-positive (c16 .before .before .before .before .before .before .args .s .now) (l .here .at) (c16 .if1 .taken),
+      line-positive (c16 .before .before .before .before .before .before .args .s .now) (l .here .at) more,
       c8 .before .before .before .before .before .before .before .line-end .ensures,
-      c16 .if1 .taken,
+      more,
     )
 
 loop-again : tie.Need-loop-again Inv-loop μ-loop
