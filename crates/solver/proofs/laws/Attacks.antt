@@ -23,8 +23,8 @@ use Rattle.game.proofs.laws.Keeps.{defeated-by}
 use Rattle.game.proofs.laws.Rank.{settled}
 use Rattle.game.proofs.laws.Rounds.{Later, stays, none, after, later-than}
 use Rattle.keeping.specs.RankList.{ranksIn}
-use Rattle.solver.specs.AttacksAfter.{attackAfter, attacksAfter}
-use Rattle.solver.specs.Fair.{Fair}
+use Rattle.solver.specs.contracts.AttacksAfter.{attackAfter, attacksAfter}
+use Rattle.solver.specs.contracts.Fair.{Fair}
 use Rattle.solver.specs.Over.{found}
 use Rattle.solver.specs.RankTable.{rankTable, roundTable}
 use Rattle.solver.specs.Solution.{attackTable}

@@ -20,7 +20,7 @@ use Rattle.game.specs.Rank.{notRanked, defeats, defeated, round, ranksAfter, ra
 use Rattle.game.proofs.laws.Keeps.{answered-same, defeated-by}
 use Rattle.game.proofs.laws.Rounds.{defeated-same, Still, still-ranks, rank-most}
 use Rattle.keeping.specs.RankList.{ranksIn}
-use Rattle.solver.specs.Fair.{Fair}
+use Rattle.solver.specs.contracts.Fair.{Fair}
 use Rattle.solver.specs.RankTable.{rankTable, roundTable}
 
 -- one and the same rank, one and the same set

@@ -1,71 +1,117 @@
--- `solver::rounds::rounds` meets its contract: a game of few states and few places is small.
-use Prim.Native.Nat.{ℕ, _*_, _^_, min, _≤_}
-use native.Mathlib.Omega.{arith}
-use native.Mathlib.Nat.{mul-le-mul}
-use mathlib.Core.Path.{_≡_, ap, _∙_}
 use borrow.Author.Needs.{needs}
-use Rattle.circuit.specs.Limits.{base}
-use Rattle.circuit.specs.Stored.{lent}
-use Rattle.game.specs.Game.{Game}
-use Rattle.solver.specs.Fair.{Fair}
-use Rattle.solver.specs.PlacesOf.{fewStates}
-use Rattle.solver.specs.Played.{played}
-use Rattle.solver.proofs.laws.PlacesOf.{many-states, many-places}
-use Rattle.solver.proofs.laws.Solved.{lent-fair}
 use Rattle.solver.proofs.rounds.rounds.Statement.{statement}
 use Rattle.solver.proofs.rounds.rounds.Tie as tie
+use Rattle.solver.proofs.rounds.rounds.Reads as reads
+use Rattle.solver.proofs.rounds.rounds.Lts as lts
+use Rattle.solver.proofs.look.states.Reads as states-reads
+use Rattle.solver.proofs.rounds.changes.Reads as changes-reads
+use Rattle.solver.proofs.rounds.round.Reads as round-reads
+use Rattle.solver.proofs.rounds.zeros.Reads as zeros-reads
 
-abbrev game : tie.Start → Game
-game s = played (s .args .readings) (s .args .controls) (lent 0 (s .args .input .now) (s .args .controllable .now) (s .args .latch .now) (s .args .next .now) (s .args .output) (s .args .gate .now) (s .args .left .now) (s .args .right .now))
+abbrev Inv-loop : tie.InvT-loop
+Inv-loop net words₀ kept₀ planes₀ attacks₀ n ranks₀ k₀ words kept planes attacks ranks k = ?
 
-fair : (s : tie.Start) → Fair (game s) (s .args .states)
-fair s = let a = s .args in lent-fair 0 (a .input .now) (a .controllable .now) (a .latch .now) (a .next .now) (a .output) (a .gate .now) (a .left .now) (a .right .now) (a .readings) (a .controls) (a .states) (s .pre .1 .1 .0) (s .pre .1 .1 .1)
+abbrev μ-loop : tie.MeasureT-loop
+μ-loop net words₀ kept₀ planes₀ attacks₀ n ranks₀ k₀ words kept planes attacks ranks k = ?
 
--- the product that is compared, by the game's own numbers
-places-are : (s : tie.Start) (n : ℕ) → n ≡ min (s .args .readings) (2 ^ base .uncontrollable) → s .args .states * n ≡ game s .states * game s .readings
-unfolding played
-places-are s n e = ap (λ (m : ℕ). s .args .states * m) e ∙ ap (λ (m : ℕ). m * min (s .args .readings) (2 ^ base .uncontrollable)) (fair s .all)
+-- src/rounds.rt:65:9
+states-requires : tie.Need-states-requires Inv-loop μ-loop
+states-requires c κs = ?
 
-full-rounds-requires : tie.Need-full-rounds-requires
-full-rounds-requires c κs = let s = c .before .before .before .before .before .before .before .before in (s .pre .0, (s .pre .1 .0, (s .pre .1 .1 .0, (s .pre .1 .1 .1, many-states (game s) (omega (arith, c .if1 .taken, fair s .all))))))
+-- src/rounds.rt:66:21
+zeros-requires : tie.Need-zeros-requires Inv-loop μ-loop
+zeros-requires c κs = ?
 
-returns : tie.Need-returns
-returns c = search needs
+-- src/rounds.rt:68:5
+loop-holds : tie.Need-loop-holds Inv-loop μ-loop
+loop-holds c = ?
 
-fewer-requires : tie.Need-fewer-requires
-fewer-requires c κs = search needs
+-- src/rounds.rt:69:60
+cast-round : tie.Need-cast-round Inv-loop μ-loop
+cast-round c = ?
 
-mul-if2 : tie.Need-mul-if2
-mul-if2 c = let states = c .before .before .before .before .before .before .before .before .before .args .states in
-    let low : states ≤ fewStates = omega (arith, c .before .if1 .left) in
-    let narrow : c .fewer .result ≤ 2 ^ base .uncontrollable = omega (arith, c .fewer .ensures) in
-    omega (arith, mul-le-mul low narrow)
+-- src/rounds.rt:69:21
+round-requires : tie.Need-round-requires Inv-loop μ-loop
+round-requires c κs = ?
 
-full-rounds-requires-2 : tie.Need-full-rounds-requires-2
-full-rounds-requires-2 c κs = let s = c .before .before .before .before .before .before .before .before .before .before in
-    let n = c .before .fewer in
-    (s .pre .0, (s .pre .1 .0, (s .pre .1 .1 .0, (s .pre .1 .1 .1, many-places (game s) (omega (arith, c .before .before .if1 .left, fair s .all)) (omega (arith, c .if2 .taken, places-are s (n .result) (n .ensures)))))))
+-- src/rounds.rt:70:31
+slice-aggregate-changes : tie.Need-slice-aggregate-changes Inv-loop μ-loop
+slice-aggregate-changes c = ?
 
-returns-2 : tie.Need-returns-2
-returns-2 c = search needs
+-- src/rounds.rt:70:39
+slice-aggregate-changes-2 : tie.Need-slice-aggregate-changes-2 Inv-loop μ-loop
+slice-aggregate-changes-2 c = ?
 
-small-rounds-requires : tie.Need-small-rounds-requires
-small-rounds-requires c κs = let s = c .before .before .before .before .before .before .before .before .before .before in
-    let n = c .before .fewer in
-    (s .pre .0, (s .pre .1 .0, (s .pre .1 .1 .0, (s .pre .1 .1 .1, (omega (arith, c .before .before .if1 .left, fair s .all), omega (arith, c .if2 .left, places-are s (n .result) (n .ensures)))))))
+-- src/rounds.rt:70:13
+changes-requires : tie.Need-changes-requires Inv-loop μ-loop
+changes-requires c κs = ?
 
-returns-3 : tie.Need-returns-3
-returns-3 c = search needs
+-- src/rounds.rt:72:13
+same-length : tie.Need-same-length Inv-loop μ-loop
+same-length c = ?
+
+-- src/rounds.rt:72:13
+same-length-2 : tie.Need-same-length-2 Inv-loop μ-loop
+same-length-2 c = ?
+
+-- src/rounds.rt:72:13
+same-length-3 : tie.Need-same-length-3 Inv-loop μ-loop
+same-length-3 c = ?
+
+-- src/rounds.rt:72:13
+returns : tie.Need-returns Inv-loop μ-loop
+returns c = ?
+
+-- src/rounds.rt:75:9
+add-k : tie.Need-add-k Inv-loop μ-loop
+add-k c = ?
+
+-- src/rounds.rt:68:5
+loop-less : tie.Need-loop-less Inv-loop μ-loop
+loop-less c = ?
+
+-- src/rounds.rt:68:5
+loop-again : tie.Need-loop-again Inv-loop μ-loop
+loop-again c = ?
+
+-- src/rounds.rt:54:1
+same-length-4 : tie.Need-same-length-4 Inv-loop μ-loop
+same-length-4 c = ?
+
+-- src/rounds.rt:54:1
+same-length-5 : tie.Need-same-length-5 Inv-loop μ-loop
+same-length-5 c = ?
+
+-- src/rounds.rt:54:1
+same-length-6 : tie.Need-same-length-6 Inv-loop μ-loop
+same-length-6 c = ?
+
+-- src/rounds.rt:54:1
+returns-2 : tie.Need-returns-2 Inv-loop μ-loop
+returns-2 c = ?
 
 pub rounds-spec : {M : Type 1} → statement M
 rounds-spec =
     tie.close
     (tie.spec
-    full-rounds-requires
+    Inv-loop
+    μ-loop
+    states-requires
+    zeros-requires
+    loop-holds
+    cast-round
+    round-requires
+    slice-aggregate-changes
+    slice-aggregate-changes-2
+    changes-requires
+    same-length
+    same-length-2
+    same-length-3
     returns
-    fewer-requires
-    mul-if2
-    full-rounds-requires-2
-    returns-2
-    small-rounds-requires
-    returns-3)
+    add-k
+    loop-less
+    loop-again
+    same-length-4
+    same-length-5
+    same-length-6
+    returns-2)

@@ -1,0 +1,6 @@
+pub mod Lane
+pub mod Move
+pub mod Evaluated
+pub mod Putting
+pub mod LookUp
+pub mod Decided
