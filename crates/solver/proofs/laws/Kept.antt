@@ -13,7 +13,7 @@ use borrow.Author.Tests.{lt-ltb, le-ltb}
 use Rattle.below.specs.Least.{least}
 use Rattle.below.specs.LeastFrom.{leastFrom}
 use Rattle.below.specs.Table.{table}
-use Rattle.below.proofs.laws.Least.{least-is, least-none}
+use Rattle.below.proofs.laws.Least.{least-is, least-none, least-before}
 use Rattle.below.proofs.laws.LeastFrom.{from-le, from-holds, from-start, from-before}
 use Rattle.below.proofs.laws.Table.{length-table, getD-table, getD-table-past}
 use Rattle.circuit.specs.Limits.{base}
@@ -73,16 +73,44 @@ module _ (net : List ℕ) (ranks : ℕ → ℕ) (k p found lead : ℕ) (kept : K
   -- the control kept still keeps: it is the least
   module _ (still : (ltb 0 found && notRanked ranks k lead) ≡ true) where
     pub still-some : 0 < found
-    still-some = elim (decLt 0 found) [ yes h ↦ h | no h ↦ absurd (true≢false (sym (both-hold _ _ still .0) ∙ le-ltb 0 found (omega arith))) ]
+    still-some = elim (decLt 0 found) [ yes h ↦ h | no h ↦ absurd (true≢false (sym (both-hold (ltb 0 found) (notRanked ranks k lead) still .0) ∙ le-ltb 0 found (omega arith))) ]
 
     pub still-least : found - 1 ≡ least p-keeps (2 ^ netControls net)
-    still-least = sym (least-is p-keeps (2 ^ netControls net) (found - 1) (omega (arith, still-some, kept .few)) (kept .leads still-some (notRanked ranks k) ∙ both-hold _ _ still .1) (λ j h. kept .failed j (omega arith)))
+    still-least = sym (least-is p-keeps (2 ^ netControls net) (found - 1) (omega (arith, still-some, kept .few)) (kept .leads still-some (notRanked ranks k) ∙ both-hold (ltb 0 found) (notRanked ranks k lead) still .1) (λ j h. kept .failed j (omega arith)))
 
   -- or it failed too
   pub none-behind : (ltb 0 found && notRanked ranks k lead) ≡ false → (j : ℕ) → j < found → p-keeps j ≡ false
-  none-behind e j h = elim (decLt (j + 1) found) [ yes l ↦ kept .failed j l | no l ↦ ap p-keeps {x = j} {y = found - 1} (omega (arith, l)) ∙ kept .leads (omega arith) (notRanked ranks k) ∙ not-both _ _ e (lt-ltb 0 found (omega arith)) ]
+  none-behind e j h = elim (decLt (j + 1) found) [ yes l ↦ kept .failed j l | no l ↦ ap p-keeps {x = j} {y = found - 1} (omega (arith, l)) ∙ kept .leads (omega arith) (notRanked ranks k) ∙ not-both (ltb 0 found) (notRanked ranks k lead) e (lt-ltb 0 found (omega arith)) ]
 
 module _ (net : List ℕ) (ranks : ℕ → ℕ) (k : ℕ) (kept planes : List ℕ) (all : Kept net ranks k kept planes) where
+  -- a look behind the control kept, over the moves of a place
+  module _ (p n m : ℕ) (place : p < places net) (count : n ≡ 2 ^ netControls net) (behind : Behind net ranks k p kept) (found : m ≡ leastFrom (moveKeeps net (notRanked ranks k)) (p * n + getD kept (2 * p) 0) (p * n + n)) where
+    abbrev keeps-at : ℕ → ℕ
+    keeps-at x = least (λ j. moveKeeps net (notRanked ranks k) (p * x + j)) x
+
+    failed : (j : ℕ) → j < getD kept (2 * p) 0 → moveKeeps net (notRanked ranks k) (p * n + j) ≡ false
+    unfolding placeKeeps
+    failed j h = ap (λ (x : ℕ). moveKeeps net (notRanked ranks k) (p * x + j)) count ∙ behind j h
+
+    pub look-none : p * n + n ≤ m → n ≡ least (placeKeeps net (notRanked ranks k) p) (2 ^ netControls net)
+    unfolding placeKeeps
+    look-none h = search-none (moveKeeps net (notRanked ranks k)) (p * n) n (getD kept (2 * p) 0) m failed found h ∙ ap keeps-at count
+
+    module _ (here : m < p * n + n) where
+      pub look-later : p * n ≤ m
+      look-later = search-later (moveKeeps net (notRanked ranks k)) (p * n) n (getD kept (2 * p) 0) m failed found here
+
+      pub look-found : m - p * n ≡ least (placeKeeps net (notRanked ranks k) p) (2 ^ netControls net)
+      unfolding placeKeeps
+      look-found = search-found (moveKeeps net (notRanked ranks k)) (p * n) n (getD kept (2 * p) 0) m failed found here ∙ ap keeps-at count
+
+      pub look-kept : (lead : ℕ) → ((these : ℕ → Bool) → moveKeeps net these m ≡ these lead) → KeptAt net ranks k p (m - p * n + 1) lead
+      unfolding placeKeeps
+      look-kept lead leads = record { few = omega (arith, look-later); failed = λ j h. least-before (placeKeeps net (notRanked ranks k) p) (2 ^ netControls net) j (omega (arith, look-found)); leads = λ h these. ap (moveKeeps net these) (back (m - p * n + 1 - 1) (omega arith)) ∙ leads these }
+        where
+          back : (j : ℕ) → j ≡ m - p * n → p * 2 ^ netControls net + j ≡ m
+          back j e = ap (λ (x : ℕ). p * x + j) (sym count) ∙ omega (arith, e, look-later)
+
   -- other planes
   pub kept-held : (others : List ℕ) → AllHeld net others → Kept net ranks k kept others
   kept-held others held = record { small = all .small; long = all .long; held = held; at = all .at }

@@ -6,7 +6,7 @@ use native.Mathlib.Nat.{div-lt-iff-lt-mul, mod-lt, mul-le-mul, div-add-mod', mod
 use native.Mathlib.Numerals.{add-one}
 use mathlib.Core.Bool.{Bool, not}
 use mathlib.Core.List.{List}
-use mathlib.Core.Path.{_≡_, refl, sym, ap, _∙_}
+use mathlib.Core.Path.{_≡_, refl, sym, ap, ap₂, _∙_, subst}
 use lib.Arith.{digits-lt}
 use lib.Dec.{leb, ltb}
 use lib.ListN.{getD}
@@ -35,9 +35,9 @@ module _ (net : List ℕ) (set : ℕ → Bool) (s r : ℕ) (state : s < 2 ^ netL
   least-move = least-same _ _ (2 ^ netControls net) keeps-move
 
 -- a reading defeats exactly if no control keeps at its place
-pub defeats-place : (net : List ℕ) (ranks : ℕ → ℕ) (k s r m n : ℕ) → s < 2 ^ netLatches net → r < 2 ^ netReadings net → n ≡ 2 ^ netControls net → m ≡ least (placeKeeps net (notRanked ranks k) (s * 2 ^ netReadings net + r)) (2 ^ netControls net) → leb n m ≡ defeats (netGame net) ranks k s r
+pub defeats-place : (net : List ℕ) (ranks : ℕ → ℕ) (k s r m n u : ℕ) → s < 2 ^ netLatches net → r < u → u ≡ 2 ^ netReadings net → n ≡ 2 ^ netControls net → m ≡ least (placeKeeps net (notRanked ranks k) (s * u + r)) (2 ^ netControls net) → leb n m ≡ defeats (netGame net) ranks k s r
 unfolding defeats answered any netGame
-defeats-place net ranks k s r m n h l count e = turned (least-move net (notRanked ranks k) s r h l)
+defeats-place net ranks k s r m n u h l wide count e = by (e ∙ ap (λ (x : ℕ). least (placeKeeps net (notRanked ranks k) (s * x + r)) (2 ^ netControls net)) wide ∙ least-move net (notRanked ranks k) s r h (omega arith))
   where
     q : ℕ
     q = least (keeps (netGame net) (notRanked ranks k) s r) (2 ^ netControls net)
@@ -45,13 +45,10 @@ defeats-place net ranks k s r m n h l count e = turned (least-move net (notRanke
     by : m ≡ q → leb n m ≡ not (ltb q (2 ^ netControls net))
     by f = elim (decLt m n) [ yes a ↦ lt-leb n m a ∙ sym (ap not (lt-ltb q (2 ^ netControls net) (omega arith))) | no a ↦ le-leb n m (omega arith) ∙ sym (ap not (le-ltb q (2 ^ netControls net) (omega arith))) ]
 
-    turned : least (placeKeeps net (notRanked ranks k) (s * 2 ^ netReadings net + r)) (2 ^ netControls net) ≡ q → leb n m ≡ not (ltb q (2 ^ netControls net))
-    turned f = by (e ∙ f)
-
 -- the place of a state and a reading, and back
-pub place-within : (net : List ℕ) (s r : ℕ) → s < 2 ^ netLatches net → r < 2 ^ netReadings net → s * 2 ^ netReadings net + r < places net
+pub place-within : (net : List ℕ) (s r u : ℕ) → s < 2 ^ netLatches net → r < u → u ≡ 2 ^ netReadings net → s * u + r < places net
 unfolding places
-place-within net s r h l = digits-lt h l
+place-within net s r u h l e = subst (λ (x : ℕ). s * u + r < 2 ^ netLatches net * x) e (digits-lt {q = s} {m = 2 ^ netLatches net} {r = r} {c = u} h l)
 
 module _ (net : List ℕ) (p : ℕ) (within : p < places net) where
   pub state-of : p / 2 ^ netReadings net < 2 ^ netLatches net
@@ -63,6 +60,10 @@ module _ (net : List ℕ) (p : ℕ) (within : p < places net) where
 
   pub least-place : (set : ℕ → Bool) → least (placeKeeps net set p) (2 ^ netControls net) ≡ least (keeps (netGame net) set (p / 2 ^ netReadings net) (p % 2 ^ netReadings net)) (2 ^ netControls net)
   least-place set = ap (λ (q : ℕ). least (placeKeeps net set q) (2 ^ netControls net)) (sym (div-add-mod' p (2 ^ netReadings net))) ∙ least-move net set (p / 2 ^ netReadings net) (p % 2 ^ netReadings net) state-of reading-of
+
+pub places-are : (net : List ℕ) (a b : ℕ) → a ≡ 2 ^ netLatches net → b ≡ 2 ^ netReadings net → a * b ≡ places net
+unfolding places
+places-are net a b e f = ap₂ {C = ℕ} (λ x y. x * y) e f
 
 -- a small net has no more states, readings and controls than a circuit may have
 module _ (net : List ℕ) (small : Small net) where
@@ -88,6 +89,18 @@ module _ (net : List ℕ) (small : Small net) where
 
       next : (p + 1) * 2 ^ netControls net ≡ p * 2 ^ netControls net + 2 ^ netControls net
       next = ap (λ (n : ℕ). n * 2 ^ netControls net) (add-one p) ∙ suc-mul p (2 ^ netControls net)
+
+  pub moves-fit : (p n : ℕ) → p < places net → n ≡ 2 ^ netControls net → p * n + n ≤ 8388608
+  moves-fit p n h e = subst (λ (m : ℕ). p * m + m ≤ 8388608) (sym e) (few-moves p h)
+
+  pub first-fits : (s u : ℕ) → s < 2 ^ netLatches net → u ≡ 2 ^ netReadings net → s * u ≤ 32768
+  first-fits s u h e = omega (arith, mul-le-mul low narrow)
+    where
+      low : s ≤ 2 ^ base .latches
+      low = omega (arith, few-states)
+
+      narrow : u ≤ 2 ^ base .uncontrollable
+      narrow = omega (arith, few-readings)
 
   -- how many there are, by the numbers of the net
   pub controls-are : (n : ℕ) → n ≡ getD net 0 0 → 2 ^ min n (base .latches) ≡ 2 ^ netControls net

@@ -1,110 +1,112 @@
+-- `solver::look::look_on` meets its contract: the search behind the control kept finds none, or one that is kept.
+use Prim.Native.Nat.{ℕ, _+_, _*_, _-_, _^_, _≤_}
+use native.Mathlib.Omega.{arith}
+use mathlib.Core.Path.{_≡_}
+use lib.ListN.{length-set}
+use Rattle.keeping.specs.RankList.{ranksIn}
+use Rattle.solver.proofs.laws.Kept.{look-none, look-later, look-found, look-kept, kept-held, kept-put}
+use Rattle.solver.proofs.laws.Moves.{moves-fit, few-controls}
 use borrow.Author.Needs.{needs}
 use Rattle.solver.proofs.look.look_on.Statement.{statement}
 use Rattle.solver.proofs.look.look_on.Tie as tie
-use Rattle.solver.proofs.look.look_on.Reads as reads
-use Rattle.solver.proofs.look.look_on.Lts as lts
-use Rattle.solver.proofs.look.controls.Reads as controls-reads
-use Rattle.solver.proofs.look.keeping_from.Reads as keeping-from-reads
 
--- src/look.rt:96:9
 controls-requires : tie.Need-controls-requires
 controls-requires c κs = search needs
 
--- src/look.rt:97:17
 mul-first : tie.Need-mul-first
-mul-first c = ?
+mul-first c = let s = c .before .before .before .before .before in omega (arith, moves-fit (s .args .net .now) (s .pre .1 .0 .small) (s .args .place) (c .controls .result) (s .pre .0) (c .controls .ensures))
 
--- src/look.rt:98:29
 mul-from : tie.Need-mul-from
 mul-from c = search needs
 
--- src/look.rt:98:24
 mul-from-2 : tie.Need-mul-from-2
 mul-from-2 c = search needs
 
--- src/look.rt:98:24
 slice-read-from : tie.Need-slice-read-from
 slice-read-from c = search needs
 
--- src/look.rt:98:24
 cast-from : tie.Need-cast-from
-cast-from c = ?
+cast-from c = let s = c .before .before .before .before .before .before in omega (arith, (s .pre .1 .0 .at (s .args .place) (s .pre .0)) .few, few-controls (s .args .net .now) (s .pre .1 .0 .small))
 
--- src/look.rt:98:16
 add-from : tie.Need-add-from
-add-from c = ?
+add-from c = let s = c .before .before .before .before .before .before in omega (arith, (s .pre .1 .0 .at (s .args .place) (s .pre .0)) .few, c .before .controls .ensures, moves-fit (s .args .net .now) (s .pre .1 .0 .small) (s .args .place) (c .before .controls .result) (s .pre .0) (c .before .controls .ensures))
 
--- src/look.rt:99:70
 add-keeping-from : tie.Need-add-keeping-from
-add-keeping-from c = ?
+add-keeping-from c = let s = c .before .before .before .before .before .before .before .before in omega (arith, moves-fit (s .args .net .now) (s .pre .1 .0 .small) (s .args .place) (c .before .before .before .controls .result) (s .pre .0) (c .before .before .before .controls .ensures))
 
--- src/look.rt:99:9
 keeping-from-requires : tie.Need-keeping-from-requires
-keeping-from-requires c κs = ?
+keeping-from-requires c κs = let s = c .before .before .before .before .before .before .before .before in
+    let n = c .before .before .before .controls in
+    (s .pre .1 .0 .small, (s .pre .1 .0 .held, (omega (arith, (s .pre .1 .0 .at (s .args .place) (s .pre .0)) .few, n .ensures), moves-fit (s .args .net .now) (s .pre .1 .0 .small) (s .args .place) (n .result) (s .pre .0) (n .ensures))))
 
--- src/look.rt:100:8
 add-if1 : tie.Need-add-if1
-add-if1 c = ?
+add-if1 c = let s = c .before .before .before .before .before .before .before .before .before .before .before in omega (arith, moves-fit (s .args .net .now) (s .pre .1 .0 .small) (s .args .place) (c .before .before .before .before .before .before .controls .result) (s .pre .0) (c .before .before .before .before .before .before .controls .ensures))
 
--- src/look.rt:101:9
 same-length : tie.Need-same-length
 same-length c = search needs
 
--- src/look.rt:101:9
 returns : tie.Need-returns
-returns c = ?
+returns c = let s = c .before .before .before .before .before .before .before .before .before .before .before .before .before in
+    let a = s .args in
+    let n = c .before .before .before .before .before .before .before .before .controls in
+    let f = c .before .before .before .before .keeping-from in
+    (look-none (a .net .now) (ranksIn (a .ranks .now)) (a .bound) (a .kept .now) (a .planes .now) (s .pre .1 .0) (a .place) (n .result) (f .result .number) (s .pre .0) (n .ensures) (s .pre .1 .1) (f .ensures .0) (c .if1 .taken), kept-held (a .net .now) (ranksIn (a .ranks .now)) (a .bound) (a .kept .now) (a .planes .now) (s .pre .1 .0) _ (f .ensures .2))
 
--- src/look.rt:103:19
 sub-control : tie.Need-sub-control
-sub-control c = ?
+sub-control c = let s = c .before .before .before .before .before .before .before .before .before .before .before .before .before .before in
+    let a = s .args in
+    let n = c .before .before .before .before .before .before .before .before .before .controls in
+    let f = c .before .before .before .before .before .keeping-from in
+    look-later (a .net .now) (ranksIn (a .ranks .now)) (a .bound) (a .kept .now) (a .planes .now) (s .pre .1 .0) (a .place) (n .result) (f .result .number) (s .pre .0) (n .ensures) (s .pre .1 .1) (f .ensures .0) (c .before .if1 .left)
 
--- src/look.rt:104:23
 cast-kept : tie.Need-cast-kept
-cast-kept c = ?
+cast-kept c = let s = c .before .before .before .before .before .before .before .before .before .before .before .before .before .before in
+    let a = s .args in
+    let n = c .before .before .before .before .before .before .before .before .before .controls in
+    omega (arith, c .before .if1 .left, n .ensures, few-controls (a .net .now) (s .pre .1 .0 .small))
 
--- src/look.rt:104:23
 add-kept : tie.Need-add-kept
-add-kept c = ?
+add-kept c = let s = c .before .before .before .before .before .before .before .before .before .before .before .before .before .before in
+    let a = s .args in
+    let n = c .before .before .before .before .before .before .before .before .before .controls in
+    omega (arith, c .before .if1 .left, n .ensures, few-controls (a .net .now) (s .pre .1 .0 .small))
 
--- src/look.rt:104:10
 mul-kept : tie.Need-mul-kept
 mul-kept c = search needs
 
--- src/look.rt:104:5
 mul-kept-2 : tie.Need-mul-kept-2
 mul-kept-2 c = search needs
 
--- src/look.rt:104:5
 slice-write-kept : tie.Need-slice-write-kept
 slice-write-kept c = search needs
 
--- src/look.rt:105:10
 mul-kept-3 : tie.Need-mul-kept-3
 mul-kept-3 c = search needs
 
--- src/look.rt:105:10
 add-kept-2 : tie.Need-add-kept-2
 add-kept-2 c = search needs
 
--- src/look.rt:105:5
 mul-kept-4 : tie.Need-mul-kept-4
 mul-kept-4 c = search needs
 
--- src/look.rt:105:5
 slice-write-kept-2 : tie.Need-slice-write-kept-2
-slice-write-kept-2 c = ?
+slice-write-kept-2 c = let s = c .before .before .before .before .before .before .before .before .before .before .before .before .before .before in
+    let a = s .args in
+    let l = length-set (a .kept .now) (2 * a .place) (c .before .before .before .before .before .keeping-from .result .number - a .place * c .before .before .before .before .before .before .before .before .before .controls .result + 1) in
+    omega (arith, l, s .pre .1 .0 .long, s .pre .0)
 
--- src/look.rt:82:1
 same-length-2 : tie.Need-same-length-2
 same-length-2 c = search needs
 
--- src/look.rt:82:1
 same-length-3 : tie.Need-same-length-3
 same-length-3 c = search needs
 
--- src/look.rt:82:1
 returns-2 : tie.Need-returns-2
-returns-2 c = ?
+returns-2 c = let s = c .before .before .before .before .before .before .before .before .before .before .before .before .before .before in
+    let a = s .args in
+    let n = c .before .before .before .before .before .before .before .before .before .controls in
+    let f = c .before .before .before .before .before .keeping-from in
+    (look-found (a .net .now) (ranksIn (a .ranks .now)) (a .bound) (a .kept .now) (a .planes .now) (s .pre .1 .0) (a .place) (n .result) (f .result .number) (s .pre .0) (n .ensures) (s .pre .1 .1) (f .ensures .0) (c .before .if1 .left), kept-put (a .net .now) (ranksIn (a .ranks .now)) (a .bound) (a .kept .now) (a .planes .now) (s .pre .1 .0) (a .place) _ _ _ (f .ensures .2) (s .pre .0) (look-kept (a .net .now) (ranksIn (a .ranks .now)) (a .bound) (a .kept .now) (a .planes .now) (s .pre .1 .0) (a .place) (n .result) (f .result .number) (s .pre .0) (n .ensures) (s .pre .1 .1) (f .ensures .0) (c .before .if1 .left) (f .result .lead) (f .ensures .1 (c .before .if1 .left))))
 
 pub look-on-spec : {M : Type 1} → statement M
 look-on-spec =
