@@ -9,3 +9,4 @@ pub mod Search
 pub mod Moves
 pub mod Kept
 pub mod NetGame
+pub mod Solved

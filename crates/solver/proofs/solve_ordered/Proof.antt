@@ -1,51 +1,43 @@
+-- `solver::solve_ordered` meets its contract: the counts of the net decide.
+use mathlib.Core.Path.{_≡_, sym, ap, _∙_}
+use Rattle.solver.specs.Solution.{solutionOf}
+use Rattle.solver.specs.contracts.NetGame.{netGame}
+use Rattle.solver.proofs.laws.Solved.{empty-small, many-empty, few-itself, few-small}
 use borrow.Author.Needs.{needs}
 use Rattle.solver.proofs.solve_ordered.Statement.{statement}
 use Rattle.solver.proofs.solve_ordered.Tie as tie
-use Rattle.solver.proofs.solve_ordered.Reads as reads
-use Rattle.solver.proofs.solve_ordered.Lts as lts
-use Rattle.circuit.proofs.counts.too_many.Reads as too-many-reads
-use Rattle.solver.proofs.planes.number_at.Reads as number-at-reads
-use Rattle.solver.proofs.rooms.solve_net.Reads as solve-net-reads
 
--- src/lib.rt:42:17
 number-at-requires : tie.Need-number-at-requires
 number-at-requires c κs = search needs
 
--- src/lib.rt:42:17
 cast-too-many : tie.Need-cast-too-many
 cast-too-many c = search needs
 
--- src/lib.rt:42:45
 number-at-requires-2 : tie.Need-number-at-requires-2
 number-at-requires-2 c κs = search needs
 
--- src/lib.rt:42:45
 cast-too-many-2 : tie.Need-cast-too-many-2
 cast-too-many-2 c = search needs
 
--- src/lib.rt:42:8
 too-many-requires : tie.Need-too-many-requires
 too-many-requires c κs = search needs
 
--- src/lib.rt:43:26
 slice-aggregate-solve-net : tie.Need-slice-aggregate-solve-net
 slice-aggregate-solve-net c = search needs
 
--- src/lib.rt:43:9
 solve-net-requires : tie.Need-solve-net-requires
-solve-net-requires c κs = ?
+solve-net-requires c κs = empty-small
 
--- src/lib.rt:43:9
 returns : tie.Need-returns
-returns c = ?
+returns c = let t = c .before .before .before .too-many in
+    let s = c .before .before .before .before .before .before .before in
+    c .solve-net .ensures ∙ ap (λ l. solutionOf (netGame l)) (many-empty (s .args .net .now) (s .pre) _ _ (c .before .before .before .before .before .number-at .ensures) (c .before .before .before .before .number-at2 .ensures) (sym (t .ensures) ∙ c .before .before .if1 .taken))
 
--- src/lib.rt:45:5
 solve-net-requires-2 : tie.Need-solve-net-requires-2
-solve-net-requires-2 c κs = ?
+solve-net-requires-2 c κs = let s = c .before .before .before .before .before in few-small (s .args .net .now) (s .pre) _ _ (c .before .before .before .number-at .ensures) (c .before .before .number-at2 .ensures) (sym (c .before .too-many .ensures) ∙ c .if1 .left)
 
--- src/lib.rt:38:1
 returns-2 : tie.Need-returns-2
-returns-2 c = ?
+returns-2 c = let s = c .before .before .before .before .before .before in c .solve-net2 .ensures ∙ ap (λ l. solutionOf (netGame l)) (few-itself (s .args .net .now) (s .pre) _ _ (c .before .before .before .before .number-at .ensures) (c .before .before .before .number-at2 .ensures) (sym (c .before .before .too-many .ensures) ∙ c .before .if1 .left))
 
 pub solve-ordered-spec : {M : Type 1} → statement M
 solve-ordered-spec =

@@ -1,59 +1,64 @@
+-- `solver::rounds::ranked` meets its contract: a rank once given stays, and its attack; another is given exactly if some reading defeats, the
+-- least one.
+use native.Mathlib.Omega.{arith}
+use mathlib.Core.Path.{sym, _∙_}
+use Rattle.keeping.specs.RankList.{ranksIn}
+use Rattle.solver.specs.contracts.NetGame.{netGame}
+use Rattle.solver.proofs.laws.Attacks.{attack-kept, attack-new, attack-none}
+use Rattle.solver.proofs.laws.Moves.{few-readings}
+use Rattle.solver.proofs.laws.RankTable.{rank-kept, rank-given, rank-none}
 use borrow.Author.Needs.{needs}
 use Rattle.solver.proofs.rounds.ranked.Statement.{statement}
 use Rattle.solver.proofs.rounds.ranked.Tie as tie
-use Rattle.solver.proofs.rounds.ranked.Reads as reads
-use Rattle.solver.proofs.rounds.ranked.Lts as lts
-use Rattle.keeping.proofs.rank_list.rank_at.Reads as rank-at-reads
-use Rattle.solver.proofs.look.least_defeat.Reads as least-defeat-reads
-use Rattle.solver.proofs.look.readings.Reads as readings-reads
 
--- src/rounds.rt:145:9
 rank-at-requires : tie.Need-rank-at-requires
 rank-at-requires c κs = search needs
 
--- src/rounds.rt:147:9
 returns : tie.Need-returns
-returns c = ?
+returns c = let x = c .before .rank-at in
+    let s = c .before .before .before .before .before .before in
+    let a = s .args in
+    (rank-kept (netGame (a .net .now)) (a .k) (ranksIn (a .ranks .now)) (a .state) (x .result) (x .ensures) (c .if1 .taken), attack-kept (netGame (a .net .now)) (a .k) (a .ranks .now) (a .attack) (a .state) (x .result) (x .ensures) (c .if1 .taken), s .pre .1 .1)
 
--- src/rounds.rt:149:9
 readings-requires : tie.Need-readings-requires
 readings-requires c κs = search needs
 
--- src/rounds.rt:150:9
 least-defeat-requires : tie.Need-least-defeat-requires
 least-defeat-requires c κs = search needs
 
--- src/rounds.rt:153:19
 add-t20 : tie.Need-add-t20
 add-t20 c = search needs
 
--- src/rounds.rt:154:21
 cast-t21 : tie.Need-cast-t21
-cast-t21 c = ?
+cast-t21 c = let s = c .before .before .before .before .before .before .before .before .before .before .before .before .before .before .before .before in omega (arith, c .if2 .taken, c .before .before .before .before .before .before .before .before .before .readings .ensures, few-readings (s .args .net .now) (s .pre .1 .1 .small))
 
--- src/rounds.rt:130:1
 same-length : tie.Need-same-length
 same-length c = search needs
 
--- src/rounds.rt:130:1
 same-length-2 : tie.Need-same-length-2
 same-length-2 c = search needs
 
--- src/rounds.rt:130:1
 returns-2 : tie.Need-returns-2
-returns-2 c = ?
+unfolding netGame
+returns-2 c = let n = c .before .before .before .before .before .before .before .before .before .readings in
+    let q = c .before .before .before .before .before .least-defeat in
+    let x = c .before .before .before .before .before .before .before .before .before .before .before .rank-at in
+    let a = c .before .before .before .before .before .before .before .before .before .before .before .before .before .before .before .before .args in
+    (rank-given (netGame (a .net .now)) (a .k) (ranksIn (a .ranks .now)) (a .state) (x .result) (x .ensures) (q .result) (n .result) (c .before .before .before .before .before .before .before .before .before .before .if1 .left) (q .ensures .0) (n .ensures) (c .if2 .taken), attack-new (netGame (a .net .now)) (a .k) (a .ranks .now) (a .attack) (a .state) (x .result) (x .ensures) (q .result) (n .result) (c .before .before .before .before .before .before .before .before .before .before .if1 .left) (q .ensures .0) (n .ensures) (c .if2 .taken), q .ensures .1)
 
--- src/rounds.rt:130:1
 same-length-3 : tie.Need-same-length-3
 same-length-3 c = search needs
 
--- src/rounds.rt:130:1
 same-length-4 : tie.Need-same-length-4
 same-length-4 c = search needs
 
--- src/rounds.rt:130:1
 returns-3 : tie.Need-returns-3
-returns-3 c = ?
+unfolding netGame
+returns-3 c = let n = c .before .before .before .before .before .before .before .before .before .readings in
+    let q = c .before .before .before .before .before .least-defeat in
+    let x = c .before .before .before .before .before .before .before .before .before .before .before .rank-at in
+    let a = c .before .before .before .before .before .before .before .before .before .before .before .before .before .before .before .before .args in
+    (rank-none (netGame (a .net .now)) (a .k) (ranksIn (a .ranks .now)) (a .state) (x .result) (x .ensures) (q .result) (n .result) (c .before .before .before .before .before .before .before .before .before .before .if1 .left) (q .ensures .0) (n .ensures) (c .if2 .left), attack-none (netGame (a .net .now)) (a .k) (a .ranks .now) (a .attack) (a .state) (x .result) (x .ensures) (q .result) (n .result) (c .before .before .before .before .before .before .before .before .before .before .if1 .left) (q .ensures .0) (n .ensures) (c .if2 .left), q .ensures .1)
 
 pub ranked-spec : {M : Type 1} → statement M
 ranked-spec =
