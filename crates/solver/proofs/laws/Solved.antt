@@ -7,7 +7,7 @@ use mathlib.Core.Bool.{Bool, true, false, cond, _||_}
 use mathlib.Core.List.{List, [], _∷_, _++_, map}
 use mathlib.Core.Path.{_≡_, refl, sym, ap, _∙_, subst}
 use lib.Dec.{ltb}
-use lib.ListN.{length, getD, take, replicate, length-take, length-append, length-map}
+use lib.ListN.{length, getD, take, replicate, length-take, length-append, length-map, length-replicate}
 use lib.Seq.{take-take, take-append-seam}
 use borrow.Author.Tests.{le-ltb}
 use Rattle.below.specs.Table.{table}
@@ -99,6 +99,10 @@ module _ (c : Circuit) where
 pub made-front : (net : List ℕ) (made : Net) → MadeAs net made → length net ≤ most → take (made .length) (made .numbers) ≡ net
 unfolding padded
 made-front net made as-is few = (λ x. take (as-is .length x) (as-is .numbers x)) ∙ take-take (length net) most (net ++ replicate most 0) few ∙ take-append-seam net (replicate most 0)
+
+pub made-long : (net : List ℕ) (made : Net) → MadeAs net made → length (made .numbers) ≡ most
+unfolding padded
+made-long net made as-is = ap length (as-is .numbers) ∙ omega (arith, length-take most (net ++ replicate most 0), length-append net (replicate most 0), length-replicate {A = ℕ} most 0)
 
 -- a value of the code stands for a circuit that fits
 pub value-room : (v : Value) → length (v .input) ≡ base .inputs → length (v .gate) ≡ base .variable → Room (meant v)
