@@ -4,22 +4,21 @@ typedef unsigned char u8;
 typedef unsigned short u16;
 typedef unsigned long u64;
 
-enum { FILE_BYTES = 16384, VALUES = 1001, LATCHES = 10, INPUTS = 13, STATES = 1024, READINGS = 32, LANES = 64, WINDOW = 8 };
-enum { NOWHERE = 65535 };
+enum { FILE_BYTES = 16384, VARIABLES = 1000, LATCHES = 10, INPUTS = 13, STATES = 1024, PLACES = 32768, LANES = 64, WORDS = 2048 };
 
 int open(const char *, int, ...), close(int), rename(const char *, const char *), getpid(void);
 int printf(const char *, ...), snprintf(char *, u64, const char *, ...), strncmp(const char *, const char *, u64);
 long read(int, void *, u64), write(int, const void *, u64);
-void *memcpy(void *, const void *, u64), *memset(void *, int, u64);
+void *memcpy(void *, const void *, u64);
 
 static char file[FILE_BYTES + 1];
 static int length, inputs, latches, gates, uncontrollable, controllable, states, readings, controls;
-static u16 input[INPUTS], latch[LATCHES], next[LATCHES], output, gate[VALUES], left[VALUES], right[VALUES];
+static u16 next[LATCHES], output, operands[2 * VARIABLES]; // literals of the net
 static u8 is_controllable[INPUTS];
 
-static u16 ranks[STATES], slots[STATES * READINGS][WINDOW];
-static u8 looked[STATES * READINGS], attacks[STATES];
-static u64 words[VALUES], after[LATCHES], error;
+static u16 ranks[STATES], at[PLACES], leads[PLACES]; // at: one more than the least control not yet failed, or 0
+static u8 attacks[STATES], held[PLACES];             // held: one more than the block, of a slot's, whose planes are there
+static u64 words[WORDS], planes[PLACES][LATCHES + 1];
 static u8 certificate[65536];
 static int end;
 
@@ -32,16 +31,17 @@ static int number(char **at) {
     return n;
 }
 
+// The net: literals are renumbered. 0 and 1; then the bits of a move, lowest first (controls, readings, state); then the gates in turn.
 static void read_circuit(const char *name) {
+    static u16 input[INPUTS], names[VARIABLES + 1];
     int fd = open(name, 0);
     length = read(fd, file, FILE_BYTES);
     close(fd);
-    char *at = file;
+    char *at = file, *lines;
     number(&at), inputs = number(&at), latches = number(&at), number(&at), gates = number(&at);
     for (int i = 0; i < inputs; i++) input[i] = number(&at) / 2;
-    for (int i = 0; i < latches; i++) latch[i] = number(&at) / 2, next[i] = number(&at);
-    output = number(&at);
-    for (int i = 0; i < gates; i++) gate[i] = number(&at) / 2, left[i] = number(&at), right[i] = number(&at);
+    lines = at;
+    for (int i = 0; i < 2 * latches + 1 + 3 * gates; i++) number(&at);
     while (*at++ != '\n') {}
     while (*at && *at != 'c') {
         char sort = *at;
@@ -52,59 +52,63 @@ static void read_circuit(const char *name) {
     for (int i = 0; i < inputs; i++) controllable += is_controllable[i];
     uncontrollable = inputs - controllable;
     states = 1 << latches, readings = 1 << uncontrollable, controls = 1 << controllable;
+    int c = 1, r = 1 + controllable, v = 1 + inputs;
+    for (int i = 0; i < inputs; i++) names[input[i]] = is_controllable[i] ? c++ : r++;
+    at = lines;
+    for (int i = 0; i < latches; i++) names[number(&at) / 2] = v++, next[i] = number(&at);
+    output = number(&at);
+    for (int i = 0; i < gates; i++) {
+        int own = number(&at) / 2;
+        for (int j = 0; j < 2; j++) {
+            int literal = number(&at);
+            operands[2 * i + j] = 2 * names[literal / 2] + literal % 2;
+        }
+        names[own] = v++;
+    }
+    output = 2 * names[output / 2] + output % 2;
+    for (int i = 0; i < latches; i++) next[i] = 2 * names[next[i] / 2] + next[i] % 2;
 }
 
-// The step for 64 controls at once.
+// The steps of a block: 64 moves in turn.
 
-static u64 all_if(int bit) { return -(u64)(bit & 1); }
+static void set(int variable, u64 word) { words[2 * variable] = word, words[2 * variable + 1] = ~word; }
 
-static u64 value(int literal) { return words[literal / 2] ^ all_if(literal); }
-
-static void step(int state, int reading, int block) {
+static void evaluate(int block, u64 *plane) {
     static const u64 own[] = {0xaaaaaaaaaaaaaaaa, 0xcccccccccccccccc, 0xf0f0f0f0f0f0f0f0,
                               0xff00ff00ff00ff00, 0xffff0000ffff0000, 0xffffffff00000000};
-    int c = 0, r = 0;
-    for (int i = 0; i < inputs; i++)
-        if (!is_controllable[i]) words[input[i]] = all_if(reading >> r++);
-        else words[input[i]] = c < 6 ? own[c] : all_if(block >> (c - 6)), c++;
-    for (int i = 0; i < latches; i++) words[latch[i]] = all_if(state >> i);
-    for (int i = 0; i < gates; i++) words[gate[i]] = value(left[i]) & value(right[i]);
-    for (int i = 0; i < latches; i++) after[i] = value(next[i]);
-    error = value(output);
+    int v = 1;
+    set(0, 0);
+    for (int i = 0; i < inputs + latches; i++) set(v++, i < 6 ? own[i] : -(u64)(block >> (i - 6) & 1));
+    for (int i = 0; i < gates; i++) set(v++, words[operands[2 * i]] & words[operands[2 * i + 1]]);
+    for (int i = 0; i < latches; i++) plane[i] = words[next[i]];
+    plane[LATCHES] = ~words[output];
 }
 
 // The game.
 
 static int unranked(int state, int bound) { return ranks[state] == 0 || bound < ranks[state]; }
 
-// The first slot that holds a state which isn't of rank 1 to the bound, or as many as there are slots.
-static int kept(int i, int bound) {
-    for (int j = 0; j < WINDOW; j++)
-        if (slots[i][j] != NOWHERE && unranked(slots[i][j], bound)) return j;
-    return WINDOW;
-}
-
-static int state_in(int lane) {
+static int state_in(const u64 *plane, int lane) {
     int state = 0;
-    for (int i = 0; i < latches; i++) state |= (after[i] >> lane & 1) << i;
+    for (int i = 0; i < latches; i++) state |= (plane[i] >> lane & 1) << i;
     return state;
 }
 
-// Where the controls of a window lead, by the step for the controls that they are among.
-static void keep(int i, int window) {
-    for (int j = 0; j < WINDOW; j++) {
-        int control = window * WINDOW + j, lane = control % LANES;
-        slots[i][j] = control < controls && !(error >> lane & 1) ? state_in(lane) : NOWHERE;
-    }
-}
-
-// Looks on behind the windows looked at, up to one with a control that leads, without an error, to a state that isn't of rank 1 to the
-// bound. Whether there is one.
-static int look_on(int i, int bound) {
-    for (int fresh = 1; looked[i] * WINDOW < controls; fresh = looked[i] * WINDOW % LANES == 0) {
-        if (fresh) step(i / readings, i % readings, looked[i] * WINDOW / LANES);
-        keep(i, looked[i]++);
-        if (kept(i, bound) < WINDOW) return 1;
+// Goes on from a control to the first that leads, without an error, to a state that isn't of rank 1 to the bound. Whether there is one.
+// Each block is evaluated once: its planes stay until the search is behind it.
+static int look_on(int place, int control, int bound) {
+    while (control < controls) {
+        int move = place * controls + control, lane = move % LANES;
+        int slot = controllable < 6 ? move / LANES : place, block = controllable < 6 ? 0 : control / LANES;
+        if (held[slot] != block + 1) evaluate(move / LANES, planes[slot]), held[slot] = block + 1;
+        int last = controls - control < LANES - lane ? controls - control : LANES - lane;
+        for (u64 open = planes[slot][LATCHES] >> lane; open; open &= open - 1) {
+            int j = __builtin_ctzl(open);
+            if (j >= last) break;
+            int state = state_in(planes[slot], lane + j);
+            if (unranked(state, bound)) return at[place] = control + j + 1, leads[place] = state, 1;
+        }
+        control += last;
     }
     return 0;
 }
@@ -112,13 +116,12 @@ static int look_on(int i, int bound) {
 // The first reading under which no control keeps, or as many as there are.
 static int defeat(int state, int bound) {
     for (int r = 0, i = state * readings; r < readings; r++, i++)
-        if (kept(i, bound) == WINDOW && !look_on(i, bound)) return r;
+        if (!(at[i] && unranked(leads[i], bound)) && !look_on(i, at[i], bound)) return r;
     return readings;
 }
 
 // A rank given in round k + 1 lies above the bound k, so one table serves both rounds.
 static void solve(void) {
-    memset(slots, 0xff, states * readings * sizeof *slots); // each NOWHERE
     for (int k = 0, changed = 1; changed; k++) {
         changed = 0;
         for (int s = 0; s < states; s++) {
@@ -149,7 +152,7 @@ static void put_certificate(void) {
     for (int s = 0; s < states; s++) certificate[end + s / 8] |= (ranks[s] == 0) << s % 8;
     end += bytes;
     put_head(3, states * readings);
-    for (int i = 0; i < states * readings; i++) put(ranks[i / readings] ? 0 : (looked[i] - 1) * WINDOW + kept(i, NOWHERE), 1);
+    for (int i = 0; i < states * readings; i++) put(ranks[i / readings] ? 0 : at[i] - 1, 1);
 }
 
 int main(int count, char **names) {

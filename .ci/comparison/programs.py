@@ -13,7 +13,7 @@ BUILD = ROOT / "target" / "second"
 SECOND = BUILD / "release" / "second"
 BATCH = 250
 LONGEST = 60  # seconds for one call
-STACK = 1 << 20  # bytes that a program gets by with
+STACK = 1 << 22  # bytes that a program gets by with
 
 Ran = collections.namedtuple("Ran", "out err status")
 

@@ -1,2 +1,2 @@
-pub mod SlotKeeps
+pub mod InLane
 pub mod LaneSearch

@@ -1,5 +1,7 @@
 // A list of ranks (01, "The game"): a state that isn't in it has rank 0.
+ghost use mathlib.Core.Bool.{_&&_};
 ghost use mathlib.Core.Path.{_≡_};
+ghost use lib.Dec.{ltb};
 ghost use Rattle.game.specs.Rank.{notRanked};
 ghost use Rattle.keeping.specs.RankList.{ranksIn};
 
@@ -18,4 +20,15 @@ pub fn is_unranked(ranks: &[u16], bound: u16, state: usize) -> bool
         return true;
     }
     bound < x
+}
+
+// Whether a control was found, and leads to a state that isn't of rank 1 to a bound.
+pub fn still_keeps(found: u16, lead: u16, ranks: &[u16], bound: u16) -> bool
+    ensures { λ r. ⌜ r ≡ (ltb 0 found && notRanked (ranksIn (now (ranks .entry))) bound lead) ⌝ }
+{
+    if 0 < found {
+        is_unranked(ranks, bound, lead as usize)
+    } else {
+        false
+    }
 }

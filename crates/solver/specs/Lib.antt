@@ -1,12 +1,5 @@
-pub mod Played
 pub mod RankTable
-pub mod Fair
 pub mod Over
-pub mod PlacesOf
-pub mod Window
-pub mod AllKept
 pub mod Solution
-pub mod AttacksAfter
 pub mod Counts
-pub mod PreparedLists
-pub mod Ready
+pub mod contracts

@@ -23,8 +23,8 @@ use Rattle.game.proofs.laws.Keeps.{defeated-by}
 use Rattle.game.proofs.laws.Rank.{settled}
 use Rattle.game.proofs.laws.Rounds.{Later, stays, none, after, later-than}
 use Rattle.keeping.specs.RankList.{ranksIn}
-use Rattle.solver.specs.AttacksAfter.{attackAfter, attacksAfter}
-use Rattle.solver.specs.Fair.{Fair}
+use Rattle.solver.specs.contracts.AttacksAfter.{attackAfter, attacksAfter}
+use Rattle.solver.specs.contracts.Fair.{Fair}
 use Rattle.solver.specs.Over.{found}
 use Rattle.solver.specs.RankTable.{rankTable, roundTable}
 use Rattle.solver.specs.Solution.{attackTable}
@@ -72,10 +72,6 @@ zero-at n s = elim (decLt s n) [ yes h ↦ getD-table {A = ℕ} (λ i. 0) n s 0 
 pub attacks-start : (g : Game) (ranks attacks : List ℕ) → ranks ≡ table (λ s. 0) (2 ^ base .latches) → attacks ≡ table (λ s. 0) (2 ^ base .latches) → AttacksAre g ranks attacks
 unfolding ranksIn
 attacks-start g ranks attacks e f = record { long = ap length f ∙ length-table {A = ℕ} (λ s. 0) (2 ^ base .latches); ranked = λ s h l. absurd (omega (arith, ap (λ (x : List ℕ). getD x s 0) e ∙ zero-at (2 ^ base .latches) s)); others = λ s h. ap (λ (x : List ℕ). getD x s 0) f ∙ zero-at (2 ^ base .latches) s }
-
--- where each state has the same rank
-pub attacks-same : (g : Game) (ranks other attacks : List ℕ) → ((s : ℕ) → s < g .states → ranksIn ranks s ≡ ranksIn other s) → AttacksAre g other attacks → AttacksAre g ranks attacks
-attacks-same g ranks other attacks e a = record { long = a .long; ranked = λ s h l. a .ranked s h (omega (arith, e s h)); others = λ s h. a .others s (λ l. sym (e s l) ∙ h l) }
 
 module _ (g : Game) (states k : ℕ) (ranks : List ℕ) (fair : Fair g states) (ranked : Ranked g states k ranks) (more : k < states) where
   now-rank : (s : ℕ) → s < g .states → ranksIn ranks s ≡ ranksAfter g k s

@@ -20,7 +20,7 @@ use Rattle.game.specs.Rank.{notRanked, defeats, defeated, round, ranksAfter, ra
 use Rattle.game.proofs.laws.Keeps.{answered-same, defeated-by}
 use Rattle.game.proofs.laws.Rounds.{defeated-same, Still, still-ranks, rank-most}
 use Rattle.keeping.specs.RankList.{ranksIn}
-use Rattle.solver.specs.Fair.{Fair}
+use Rattle.solver.specs.contracts.Fair.{Fair}
 use Rattle.solver.specs.RankTable.{rankTable, roundTable}
 
 -- one and the same rank, one and the same set
@@ -118,6 +118,13 @@ module _ (g : Game) (proper : Proper g) (few : g .states ≤ 2 ^ base .latches) 
       still : Still g k
       still = still-of g k (λ s h. sym (ap (λ (n : ℕ). ranksAfter g n s) (add-one k)) ∙ sym (in-table g few (k + 1) s h) ∙ sym (same s h) ∙ in-table g few k s h)
 
+  pub unchanged-table : (k : ℕ) → any (λ s. not (eqb (ranksIn (tableAfter g k) s) (ranksIn (tableAfter g (k + 1)) s))) (g .states) ≡ false → tableAfter g (k + 1) ≡ tableAfter g k
+  unfolding tableAfter
+  unchanged-table k e = table-same _ _ (2 ^ base .latches) (λ s h. elim (decLt s (g .states)) [ yes m ↦ ap (λ (n : ℕ). cond (ltb s (g .states)) n 0) (sym (in-table g few (k + 1) s m) ∙ sym (same s m) ∙ in-table g few k s m) | no m ↦ rw (le-ltb s (g .states) (omega arith)) ])
+    where
+      same : (s : ℕ) → s < g .states → ranksIn (tableAfter g k) s ≡ ranksIn (tableAfter g (k + 1)) s
+      same s h = eqb-true _ _ (not-false _ (any-none (λ t. not (eqb (ranksIn (tableAfter g k) t) (ranksIn (tableAfter g (k + 1)) t))) (g .states) s e h))
+
 -- the list after k rounds, of at most as many as there are states
 pub record Ranked (g : Game) (states k : ℕ) (ranks : List ℕ) : Type 0 where
   pub within : k ≤ states
@@ -141,15 +148,15 @@ module _ (g : Game) (states k : ℕ) (ranks after : List ℕ) (fair : Fair g sta
   pub rounds-next : k < states → after ≡ roundTable g states k ranks → Ranked g states (k + 1) after
   rounds-next h e = record { within = omega arith; is = next-is e }
 
-  pub rounds-stop : (changed : Bool) → after ≡ roundTable g states k ranks → changed ≡ any (λ s. not (eqb (ranksIn ranks s) (ranksIn after s))) states → changed ≡ false → ranks ≡ rankTable g
-  rounds-stop changed e f q = ranked .is ∙ unchanged-is-last g (fair .proper) (fair .few) k (omega (arith, ranked .within, fair .all)) (sym (λ x. any (λ s. not (eqb (ranksIn (ranked .is x) s) (ranksIn (next-is e x) s))) (fair .all x)) ∙ sym f ∙ q)
+  -- a round that changes nothing makes the list of ranks
+  pub rounds-stop : (changed : Bool) → after ≡ roundTable g states k ranks → changed ≡ any (λ s. not (eqb (ranksIn ranks s) (ranksIn after s))) states → changed ≡ false → after ≡ rankTable g
+  rounds-stop changed e f q = next-is e ∙ unchanged-table g (fair .proper) (fair .few) k none ∙ unchanged-is-last g (fair .proper) (fair .few) k (omega (arith, ranked .within, fair .all)) none
+    where
+      none : any (λ s. not (eqb (ranksIn (tableAfter g k) s) (ranksIn (tableAfter g (k + 1)) s))) (g .states) ≡ false
+      none = sym (λ x. any (λ s. not (eqb (ranksIn (ranked .is x) s) (ranksIn (next-is e x) s))) (fair .all x)) ∙ sym f ∙ q
 
   pub rounds-end : states ≤ k → ranks ≡ rankTable g
   rounds-end h = ranked .is ∙ ap (tableAfter g) {x = k} {y = g .states} (omega (arith, ranked .within, fair .all)) ∙ table-last g
-
--- where nothing changed each state has the same rank
-pub unchanged-same : (states : ℕ) (ranks after : List ℕ) (changed : Bool) → changed ≡ any (λ s. not (eqb (ranksIn ranks s) (ranksIn after s))) states → changed ≡ false → (s : ℕ) → s < states → ranksIn ranks s ≡ ranksIn after s
-unchanged-same states ranks after changed e f s h = eqb-true _ _ (not-false _ (any-none (λ t. not (eqb (ranksIn ranks t) (ranksIn after t))) states s (sym e ∙ f) h))
 
 -- no rank is above the number of rounds
 pub ranks-most : (g : Game) (states k : ℕ) (ranks : List ℕ) → Fair g states → Ranked g states k ranks → (t : ℕ) → ranksIn ranks t ≤ k

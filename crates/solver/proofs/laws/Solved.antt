@@ -1,115 +1,137 @@
--- The games that the solver plays: over lent lists a fair one, that of a circuit that isn't too large, and that of the empty circuit.
--- Assumes nothing.
-use Prim.Native.Nat.{ℕ, _*_, _^_, min, _<_, _≤_}
+-- The games that the solver plays: that of a circuit's net, or of the empty net where it has too many inputs of a sort; and the list of the
+-- game's replies. Assumes nothing.
+use Prim.Native.Nat.{ℕ, suc, _+_, _*_, _/_, _%_, _^_, min, _<_, _≤_}
 use native.Mathlib.Omega.{arith}
-use mathlib.Core.Bool.{Bool, true, false, cond, _||_, true≢false}
-use mathlib.Core.List.{List, []}
-use mathlib.Core.Path.{_≡_, refl, sym, ap, _∙_}
+use native.Mathlib.Decide.{decLt}
+use mathlib.Core.Bool.{Bool, true, false, cond, _||_}
+use mathlib.Core.List.{List, [], _∷_, _++_, map}
+use mathlib.Core.Path.{_≡_, refl, sym, ap, _∙_, subst}
 use lib.Dec.{ltb}
-use lib.Pow.{pow-mono}
-use borrow.Author.Tests.{lt-ltb, le-ltb}
+use lib.ListN.{length, getD, take, replicate, length-take, length-append, length-map, length-replicate}
+use lib.Seq.{take-take, take-append-seam}
+use borrow.Author.Tests.{le-ltb}
 use Rattle.below.specs.Table.{table}
-use Rattle.circuit.specs.Circuit.{Circuit, inputsThat, latchCount, uncontrollableCount, controllableCount, tooMany}
+use Rattle.below.proofs.laws.Table.{table-same, length-table}
+use Rattle.circuit.specs.Circuit.{Circuit, Latch, Gate, latchCount, uncontrollableCount, controllableCount, inputsThat}
 use Rattle.circuit.specs.Limits.{base}
-use Rattle.circuit.specs.Literal.{tooLarge}
-use Rattle.circuit.specs.Literal.{variable}
-use Rattle.circuit.specs.Stored.{emptyCircuit, gatesOf, inputsOf, latchesOf, lent, literalOf, solvable}
-use Rattle.circuit.proofs.laws.Counts.{lent-latches}
+use Rattle.circuit.specs.Literal.{constant, variable}
+use Rattle.circuit.specs.Stored.{emptyCircuit, meant, lent, inputsOf, latchesOf, gatesOf, padded, solvable}
+use Rattle.circuit.specs.declared.Circuit.{Circuit as Value}
+use Rattle.circuit.proofs.laws.Solvable.{many-solved-empty, few-solved, few-are}
 use Rattle.game.specs.CircuitGame.{circuitGame}
-use Rattle.game.specs.Game.{Proper}
-use Rattle.lanes.specs.Prepared.{Prepared}
-use Rattle.solver.specs.PlacesOf.{fewStates, small}
-use Rattle.solver.specs.Played.{played}
-use Rattle.step.specs.Step.{step}
-use Rattle.step.proofs.laws.Step.{next-below, largest-not-read}
-use Rattle.solver.specs.Solution.{solutionOf}
-use Rattle.solver.specs.Fair.{Fair}
+use Rattle.game.specs.Game.{Game}
+use Rattle.game.specs.Reply.{reply}
+use Rattle.net.specs.InOrder.{InOrder}
+use Rattle.net.specs.Made.{MadeAs, most}
+use Rattle.net.specs.Net.{netControls, netReadings, netLatches}
+use Rattle.net.specs.NetOf.{Names, name, netOf, netLiteral, operandsOf, gateStart, firstNames, allNames}
+use Rattle.net.specs.declared.Net.{Net}
+use Rattle.net.proofs.laws.InOrder.{Room, net-in-order}
+use Rattle.solver.specs.Over.{replyOver}
+use Rattle.solver.specs.RankTable.{rankTable}
+use Rattle.solver.specs.Solution.{replyTable}
+use Rattle.solver.specs.contracts.Moves.{Small, places}
+use Rattle.solver.specs.contracts.NetGame.{netGame, solvableNet}
+use Rattle.solver.proofs.laws.Moves.{state-of, reading-of, few-states}
+use Rattle.solver.proofs.laws.NetGame.{net-game, net-proper}
+use Rattle.solver.proofs.laws.Over.{reply-over-is-reply}
 
-whole-game : (c : Circuit) (readings controls : ℕ) → min readings (2 ^ base .uncontrollable) ≡ 2 ^ uncontrollableCount c → min controls (2 ^ base .controllable) ≡ 2 ^ controllableCount c → played readings controls c ≡ circuitGame c
-unfolding played circuitGame
-whole-game c readings controls e f = λ x. record { states = 2 ^ latchCount c; readings = e x; controls = f x; step = step c }
+-- the replies found at each place are the game's
+pub replies-end : (net ranks : List ℕ) → Small net → ranks ≡ rankTable (netGame net) → table (λ i. cond (ltb i (places net)) (replyOver (netGame net) ranks (i / 2 ^ netReadings net) (i % 2 ^ netReadings net)) 0) (2 ^ base .latches * 2 ^ base .uncontrollable) ≡ replyTable (netGame net)
+unfolding replyTable netGame places
+replies-end net ranks small e = table-same _ _ (2 ^ base .latches * 2 ^ base .uncontrollable) (λ i h. elim (decLt i n) [ yes l ↦ ap (λ (x : ℕ). cond (ltb i n) x 0) (within i l) | no l ↦ rw (le-ltb i n (omega arith)) ])
+  where
+    n : ℕ
+    n = 2 ^ netLatches net * 2 ^ netReadings net
 
--- the empty circuit, by lists
-empty-lent : (controllable next : List ℕ) → lent 0 [] controllable [] next 0 [] [] [] ≡ emptyCircuit
-unfolding lent inputsOf latchesOf gatesOf literalOf tooLarge table emptyCircuit
-empty-lent controllable next = refl
+    within : (i : ℕ) → i < n → replyOver (netGame net) ranks (i / 2 ^ netReadings net) (i % 2 ^ netReadings net) ≡ reply (netGame net) (i / 2 ^ netReadings net) (i % 2 ^ netReadings net)
+    within i h = ap (λ (l : List ℕ). replyOver (netGame net) l (i / 2 ^ netReadings net) (i % 2 ^ netReadings net)) e ∙ reply-over-is-reply (netGame net) (net-proper net) (few-states net small) (i / 2 ^ netReadings net) (state-of net i h) (i % 2 ^ netReadings net) (reading-of net i h)
 
-pub empty-counted : (controllable next : List ℕ) → 1 ≡ 2 ^ latchCount (lent 0 [] controllable [] next 0 [] [] [])
-unfolding lent latchesOf latchCount table
-empty-counted controllable next = refl
+abbrev empty : List ℕ
+empty = 0 ∷ 0 ∷ 0 ∷ 0 ∷ []
 
-pub empty-small : (controllable next : List ℕ) → (played 1 1 (lent 0 [] controllable [] next 0 [] [] []) .states ≤ fewStates) × (played 1 1 (lent 0 [] controllable [] next 0 [] [] []) .states * played 1 1 (lent 0 [] controllable [] next 0 [] [] []) .readings ≤ small)
-unfolding played lent latchesOf latchCount table
-empty-small controllable next = (omega arith, omega arith)
+empty-is : empty ≡ netOf emptyCircuit
+unfolding netOf emptyCircuit controllableCount uncontrollableCount latchCount inputsThat netLiteral constant operandsOf
+empty-is = refl
 
-pub empty-prepared : Prepared [] [] []
-empty-prepared = record { lefts = refl; rights = refl; own-least = λ i h. absurd (omega arith); own-most = λ i h. absurd (omega arith); left-most = λ i h. absurd (omega arith); right-most = λ i h. absurd (omega arith) }
+empty-room : Room emptyCircuit
+unfolding emptyCircuit
+empty-room = record { inputs = omega arith; latches = omega arith; gates = omega arith }
 
-pub empty-played : (controllable next : List ℕ) → played 1 1 (lent 0 [] controllable [] next 0 [] [] []) ≡ circuitGame emptyCircuit
-unfolding uncontrollableCount controllableCount inputsThat emptyCircuit
-empty-played controllable next = ap (played 1 1) (empty-lent controllable next) ∙ whole-game emptyCircuit 1 1 refl refl
+pub empty-small : Small empty
+unfolding netReadings netControls
+empty-small = record { order = subst InOrder (sym empty-is) (net-in-order emptyCircuit empty-room); readings = omega arith; controls = omega arith }
 
-module _ (largest other : ℕ) (input controllable latch next : List ℕ) (output : ℕ) (gate left right : List ℕ) where
-  many-any-largest : tooMany base (lent largest input controllable latch next output gate left right) ≡ tooMany base (lent other input controllable latch next output gate left right)
-  unfolding tooMany uncontrollableCount controllableCount lent
-  many-any-largest = refl
+-- by the counts of a net
+module _ (net : List ℕ) (order : InOrder net) (u k : ℕ) (others : u ≡ getD net 1 0) (chosen : k ≡ getD net 0 0) where
+  counted : (ltb (base .uncontrollable) u || ltb (base .controllable) k) ≡ (ltb (base .uncontrollable) (netReadings net) || ltb (base .controllable) (netControls net))
+  unfolding netReadings netControls
+  counted = λ x. ltb (base .uncontrollable) (others x) || ltb (base .controllable) (chosen x)
 
-  game-any-largest : circuitGame (lent largest input controllable latch next output gate left right) ≡ circuitGame (lent other input controllable latch next output gate left right)
-  unfolding circuitGame latchCount uncontrollableCount controllableCount lent
-  game-any-largest = λ x. record { states = 2 ^ latchCount (lent largest input controllable latch next output gate left right); readings = 2 ^ uncontrollableCount (lent largest input controllable latch next output gate left right); controls = 2 ^ controllableCount (lent largest input controllable latch next output gate left right); step = λ s r k. largest-not-read input controllable latch next output gate left right largest other s r k x }
+  pub many-empty : (ltb (base .uncontrollable) u || ltb (base .controllable) k) ≡ true → empty ≡ solvableNet net
+  unfolding solvableNet
+  many-empty e = sym (ap (λ (b : Bool). cond b empty net) (sym counted ∙ e))
 
-played-proper : (readings controls : ℕ) (c : Circuit) → 0 < controls → Proper (played readings controls c)
-unfolding played step
-played-proper readings controls c h = record { leads = λ s r k. next-below c s r k; choice = omega arith }
+  module _ (e : (ltb (base .uncontrollable) u || ltb (base .controllable) k) ≡ false) where
+    pub few-itself : net ≡ solvableNet net
+    unfolding solvableNet
+    few-itself = sym (ap (λ (b : Bool). cond b empty net) (sym counted ∙ e))
 
-module _ (largest : ℕ) (input controllable latch next : List ℕ) (output : ℕ) (gate left right : List ℕ) where
-  few-states : 2 ^ latchCount (lent largest input controllable latch next output gate left right) ≤ 2 ^ base .latches
-  few-states = pow-mono {i = latchCount (lent largest input controllable latch next output gate left right)} {j = base .latches} (omega (arith, lent-latches largest input controllable latch next output gate left right))
+    pub few-small : Small net
+    unfolding netReadings netControls
+    few-small = record { order = order; readings = omega (arith, few-are u k e .0); controls = omega (arith, few-are u k e .1) }
 
-  pub lent-fair : (readings controls states : ℕ) → 0 < controls → states ≡ 2 ^ latchCount (lent largest input controllable latch next output gate left right) → Fair (played readings controls (lent largest input controllable latch next output gate left right)) states
-  unfolding played
-  lent-fair readings controls states h e = record { proper = played-proper readings controls (lent largest input controllable latch next output gate left right) h; few = few-states; all = e }
-
-  -- the largest variable doesn't matter
-  pub any-largest : (other : ℕ) → circuitGame (solvable (lent largest input controllable latch next output gate left right)) ≡ circuitGame (solvable (lent other input controllable latch next output gate left right))
-  unfolding solvable
-  any-largest other = by (tooMany base (lent largest input controllable latch next output gate left right)) (tooMany base (lent other input controllable latch next output gate left right)) same
-    where
-      same : tooMany base (lent largest input controllable latch next output gate left right) ≡ tooMany base (lent other input controllable latch next output gate left right)
-      same = many-any-largest largest other input controllable latch next output gate left right
-
-      by : (a b : Bool) → a ≡ b → circuitGame (cond a emptyCircuit (lent largest input controllable latch next output gate left right)) ≡ circuitGame (cond b emptyCircuit (lent other input controllable latch next output gate left right))
-      by true true e = refl
-      by true false e = absurd (true≢false e)
-      by false true e = absurd (true≢false (sym e))
-      by false false e = game-any-largest largest other input controllable latch next output gate left right
-
+-- of a circuit
 module _ (c : Circuit) where
-  pub small-solvable : uncontrollableCount c ≤ base .uncontrollable → controllableCount c ≤ base .controllable → solvable c ≡ c
-  unfolding solvable tooMany
-  small-solvable h l = rw (le-ltb (base .uncontrollable) (uncontrollableCount c) h, le-ltb (base .controllable) (controllableCount c) l)
+  counts-are : (netReadings (netOf c) ≡ uncontrollableCount c) × (netControls (netOf c) ≡ controllableCount c)
+  unfolding netReadings netControls netOf
+  counts-are = (refl, refl)
 
-  -- so many readings and controls as the circuit has: its own game
-  pub played-solvable : (u w readings controls : ℕ) → u ≡ uncontrollableCount c → w ≡ controllableCount c → u ≤ base .uncontrollable → w ≤ base .controllable → readings ≡ 2 ^ u → controls ≡ 2 ^ w → played readings controls c ≡ circuitGame (solvable c)
-  played-solvable u w readings controls e f h l p q = whole ∙ sym (ap circuitGame (small-solvable (omega arith) (omega arith)))
+  pub solvable-game : netGame (solvableNet (netOf c)) ≡ circuitGame (solvable c)
+  unfolding solvableNet
+  solvable-game = by (ltb (base .uncontrollable) (netReadings (netOf c)) || ltb (base .controllable) (netControls (netOf c))) refl
     where
-      all-readings : min readings (2 ^ base .uncontrollable) ≡ 2 ^ uncontrollableCount c
-      all-readings = omega (arith, p, ap (λ (n : ℕ). 2 ^ n) e, pow-mono {i = u} {j = base .uncontrollable} h)
+      by : (b : Bool) → (ltb (base .uncontrollable) (netReadings (netOf c)) || ltb (base .controllable) (netControls (netOf c))) ≡ b → netGame (cond b empty (netOf c)) ≡ circuitGame (solvable c)
+      by true e = ap netGame empty-is ∙ net-game emptyCircuit ∙ ap circuitGame (many-solved-empty c (netReadings (netOf c)) (netControls (netOf c)) (counts-are .0) (counts-are .1) e)
+      by false e = net-game c ∙ ap circuitGame (few-solved c (netReadings (netOf c)) (netControls (netOf c)) (counts-are .0) (counts-are .1) e)
 
-      all-controls : min controls (2 ^ base .controllable) ≡ 2 ^ controllableCount c
-      all-controls = omega (arith, q, ap (λ (n : ℕ). 2 ^ n) f, pow-mono {i = w} {j = base .controllable} l)
+-- the front of what is made is the net
+pub made-front : (net : List ℕ) (made : Net) → MadeAs net made → length net ≤ most → take (made .length) (made .numbers) ≡ net
+unfolding padded
+made-front net made as-is few = (λ x. take (as-is .length x) (as-is .numbers x)) ∙ take-take (length net) most (net ++ replicate most 0) few ∙ take-append-seam net (replicate most 0)
 
-      whole : played readings controls c ≡ circuitGame c
-      whole = whole-game c readings controls all-readings all-controls
+pub made-long : (net : List ℕ) (made : Net) → MadeAs net made → length (made .numbers) ≡ most
+unfolding padded
+made-long net made as-is = ap length (as-is .numbers) ∙ omega (arith, length-take most (net ++ replicate most 0), length-append net (replicate most 0), length-replicate {A = ℕ} most 0)
 
-  pub many-readings-solution : base .uncontrollable < uncontrollableCount c → solutionOf (circuitGame emptyCircuit) ≡ solutionOf (circuitGame (solvable c))
-  unfolding solvable tooMany
-  many-readings-solution h = rw (lt-ltb (base .uncontrollable) (uncontrollableCount c) h) refl
+-- a value of the code stands for a circuit that fits
+pub value-room : (v : Value) → length (v .input) ≡ base .inputs → length (v .gate) ≡ base .variable → Room (meant v)
+unfolding meant lent inputsOf latchesOf gatesOf
+value-room v e f = record { inputs = omega (arith, inputs-long, length-take (v .inputs) (v .input)); latches = omega (arith, latches-long); gates = omega (arith, gates-long, length-take (v .gates) (v .gate)) }
+  where
+    inputs-long : length (inputsOf (take (v .inputs) (v .input)) (v .controllable)) ≡ length (take (v .inputs) (v .input))
+    inputs-long = length-table _ (length (take (v .inputs) (v .input)))
 
-  pub many-controls-solution : base .controllable < controllableCount c → solutionOf (circuitGame emptyCircuit) ≡ solutionOf (circuitGame (solvable c))
-  unfolding solvable tooMany
-  many-controls-solution h = rw (lt-ltb (base .controllable) (controllableCount c) h) (by (ltb (base .uncontrollable) (uncontrollableCount c)))
-    where
-      by : (b : Bool) → solutionOf (circuitGame emptyCircuit) ≡ solutionOf (circuitGame (cond (b || true) emptyCircuit c))
-      by true = refl
-      by false = refl
+    latches-long : length (latchesOf (take (v .latches) (v .latch)) (v .next)) ≡ min (length (take (v .latches) (v .latch))) (base .latches)
+    latches-long = length-table _ (min (length (take (v .latches) (v .latch))) (base .latches))
+
+    gates-long : length (gatesOf (take (v .gates) (v .gate)) (v .left) (v .right)) ≡ length (take (v .gates) (v .gate))
+    gates-long = length-table _ (length (take (v .gates) (v .gate)))
+
+operands-long : (gs : List Gate) (v : ℕ) (names : Names) → length (operandsOf gs v names) ≡ 2 * length gs
+unfolding operandsOf
+operands-long [] v names = refl
+operands-long (g ∷ gs) v names = omega (arith, operands-long gs (suc v) (name (variable (g .own)) v names))
+
+pub net-few : (c : Circuit) → Room c → length (netOf c) ≤ most
+unfolding netOf
+net-few c room = omega (arith, room .latches, room .gates, length-append nexts operands, length-map (c .latches) literal, operands-long (c .gates) (gateStart c) (firstNames c))
+  where
+    literal : Latch → ℕ
+    literal l = netLiteral (allNames c) (l .next)
+
+    nexts : List ℕ
+    nexts = map literal (c .latches)
+
+    operands : List ℕ
+    operands = operandsOf (c .gates) (gateStart c) (firstNames c)

@@ -4,7 +4,7 @@ use native.Mathlib.Omega.{arith}
 use mathlib.Core.Path.{sym, _∙_}
 use Rattle.below.proofs.laws.LeastFrom.{Searched, searched-start}
 use Rattle.game.specs.Rank.{notRanked}
-use Rattle.game.specs.InLane.{keepsIn}
+use Rattle.keeping.specs.contracts.InLane.{keepsIn}
 use Rattle.keeping.specs.RankList.{ranksIn}
 use Rattle.keeping.proofs.laws.LaneSearch.{search-here, search-next, search-end}
 use borrow.Author.Needs.{needs}

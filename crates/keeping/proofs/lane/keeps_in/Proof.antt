@@ -2,7 +2,7 @@
 use mathlib.Core.Path.{sym, ap, _∙_}
 use Rattle.game.specs.Rank.{notRanked}
 use Rattle.keeping.specs.RankList.{ranksIn}
-use Rattle.game.proofs.laws.InLane.{error-fails, next-decides}
+use Rattle.keeping.proofs.laws.InLane.{error-fails, next-decides}
 use borrow.Author.Needs.{needs}
 use Rattle.keeping.proofs.lane.keeps_in.Statement.{statement}
 use Rattle.keeping.proofs.lane.keeps_in.Tie as tie

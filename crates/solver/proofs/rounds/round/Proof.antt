@@ -6,54 +6,55 @@ use lib.ListN.{length, getD}
 use Rattle.below.specs.Table.{table}
 use Rattle.below.proofs.laws.Filled.{Filled, filled-start, filled-next, filled-end}
 use Rattle.circuit.specs.Limits.{base}
-use Rattle.circuit.specs.Stored.{lent}
 use Rattle.game.specs.Rank.{round as roundOf}
 use Rattle.keeping.specs.RankList.{ranksIn}
-use Rattle.solver.specs.Played.{played}
-use Rattle.solver.specs.AllKept.{AllKept}
-use Rattle.solver.specs.AttacksAfter.{attackAfter, attacksAfter}
-use Rattle.solver.specs.Ready.{Ready}
+use Rattle.net.specs.Net.{netLatches}
+use Rattle.solver.specs.contracts.AttacksAfter.{attackAfter, attacksAfter}
+use Rattle.solver.specs.contracts.Kept.{Kept}
+use Rattle.solver.specs.contracts.NetGame.{netGame}
 use Rattle.solver.specs.RankTable.{roundTable}
+use Rattle.solver.proofs.laws.Moves.{few-states}
 use borrow.Author.Needs.{needs}
 use Rattle.solver.proofs.rounds.round.Statement.{statement}
 use Rattle.solver.proofs.rounds.round.Tie as tie
 
 abbrev Inv-loop : tie.InvT-loop
-Inv-loop words₀ top input controllable latch next output gate left right readings controls states k attacks₀ looked₀ slots₀ ranks after₀ s₀ words attacks looked slots after s = (Filled (roundOf (played readings controls (lent 0 input controllable latch next output gate left right)) k (ranksIn ranks)) ranks s after × (s ≤ states) × (length ranks ≡ 2 ^ base .latches)) × Filled (λ j. attackAfter (played readings controls (lent 0 input controllable latch next output gate left right)) k ranks (getD attacks₀ j 0) j) attacks₀ s attacks × AllKept (played readings controls (lent 0 input controllable latch next output gate left right)) (ranksIn ranks) k looked slots × Ready input latch gate left right top words
+Inv-loop net words₀ kept₀ planes₀ k attacks₀ ranks n after₀ s₀ words kept planes attacks after s = (Filled (roundOf (netGame net) k (ranksIn ranks)) ranks s after × (s ≤ n) × (length ranks ≡ 2 ^ base .latches)) × Filled (λ j. attackAfter (netGame net) k ranks (getD attacks₀ j 0) j) attacks₀ s attacks × Kept net (ranksIn ranks) k kept planes × (length kept ≡ length kept₀) × (length planes ≡ length planes₀) × (n ≡ 2 ^ netLatches net) × (n ≤ 2 ^ base .latches)
 
 abbrev μ-loop : tie.MeasureT-loop
-μ-loop words₀ top input controllable latch next output gate left right readings controls states k attacks₀ looked₀ slots₀ ranks after₀ s₀ words attacks looked slots after s = states - s
+μ-loop net words₀ kept₀ planes₀ k attacks₀ ranks n after₀ s₀ words kept planes attacks after s = n - s
+
+states-requires : tie.Need-states-requires Inv-loop μ-loop
+states-requires c κs = c .before .before .before .before .pre .1 .1 .small
 
 loop-holds : tie.Need-loop-holds Inv-loop μ-loop
-loop-holds c = let s = c .before .before .before .before .before .before .before .before .before .before in ((filled-start _ _, omega arith, search (needs, s .good .1 .1 .1 .1 .1 .1 .1 .1 .1 .1 .1 .1 .1 .0)), filled-start _ _, s .pre .1 .1 .1 .1, s .pre .0)
+loop-holds c = let s = c .before .before .before .before .before in ((filled-start _ _, omega arith, search (needs, s .good .1 .1 .1 .1 .0)), filled-start _ _, s .pre .1 .1, search needs, search needs, c .states .ensures, omega (arith, c .states .ensures, few-states (s .args .net .now) (s .pre .1 .1 .small)))
 
 slice-aggregate-ranked : tie.Need-slice-aggregate-ranked Inv-loop μ-loop
 slice-aggregate-ranked c = search needs
 
 cast-ranked : tie.Need-cast-ranked Inv-loop μ-loop
-cast-ranked c = let l = c .before .before .before .loop in omega (arith, c .before .before .before .before .before .before .before .before .before .before .before .before .before .before .pre .1 .1 .0, l .inv .2 .few-states)
+cast-ranked c = let l = c .before .before .before .before .before .loop in omega (arith, c .before .before .before .before .loop-test .taken, l .inv .6)
 
 slice-read-ranked : tie.Need-slice-read-ranked Inv-loop μ-loop
-slice-read-ranked c = search needs
+slice-read-ranked c = let l = c .before .before .before .before .before .before .loop in omega (arith, c .before .before .before .before .before .loop-test .taken, l .inv .6, l .inv .1 .long, c .before .before .before .before .before .before .before .before .before .before .before .before .pre .1 .0)
 
 ranked-requires : tie.Need-ranked-requires Inv-loop μ-loop
 ranked-requires c κs = let l = c .before .before .before .before .before .before .loop in
-    let s = c .before .before .before .before .before .before .before .before .before .before .before .before .before .before .before .before .before in
-    (l .inv .3, (s .pre .1 .0, (omega (arith, s .pre .1 .1 .0), l .inv .2)))
+    let s = c .before .before .before .before .before .before .before .before .before .before .before .before in
+    (s .pre .0, (omega (arith, c .before .before .before .before .before .loop-test .taken, l .inv .5), l .inv .2))
 
 mul-after : tie.Need-mul-after Inv-loop μ-loop
-mul-after c = let l = c .before .before .before .before .before .before .before .before .before .before .before .loop in omega (arith, c .before .before .before .before .before .before .before .before .before .before .loop-test .taken, c .before .before .before .before .before .before .before .before .before .before .before .before .before .before .before .before .before .before .before .before .before .before .pre .1 .1 .0, l .inv .2 .few-states)
+mul-after c = let l = c .before .before .before .before .before .before .before .before .before .before .before .loop in omega (arith, c .before .before .before .before .before .before .before .before .before .before .loop-test .taken, l .inv .6)
 
 array-write-after : tie.Need-array-write-after Inv-loop μ-loop
-array-write-after c = let l = c .before .before .before .before .before .before .before .before .before .before .before .loop in omega (arith, c .before .before .before .before .before .before .before .before .before .before .loop-test .taken, c .before .before .before .before .before .before .before .before .before .before .before .before .before .before .before .before .before .before .before .before .before .before .pre .1 .1 .0, l .inv .2 .few-states)
+array-write-after c = let l = c .before .before .before .before .before .before .before .before .before .before .before .loop in omega (arith, c .before .before .before .before .before .before .before .before .before .before .loop-test .taken, l .inv .6)
 
 slice-write-attacks : tie.Need-slice-write-attacks Inv-loop μ-loop
-slice-write-attacks c = let l = c .before .before .before .before .before .before .before .before .before .before .before .loop in
-    let s = c .before .before .before .before .before .before .before .before .before .before .before .before .before .before .before .before .before .before .before .before .before .before in
-    omega (arith, l .inv .1 .long, s .pre .1 .1 .1 .0, s .pre .1 .1 .0, l .inv .2 .few-states)
+slice-write-attacks c = let l = c .before .before .before .before .before .before .before .before .before .before .before .loop in omega (arith, l .inv .1 .long, c .before .before .before .before .before .before .before .before .before .before .before .before .before .before .before .before .before .pre .1 .0, c .before .before .before .before .before .before .before .before .before .before .loop-test .taken, l .inv .6)
 
 add-s : tie.Need-add-s Inv-loop μ-loop
-add-s c = let l = c .before .before .before .before .before .before .before .before .before .before .before .loop in omega (arith, c .before .before .before .before .before .before .before .before .before .before .loop-test .taken, c .before .before .before .before .before .before .before .before .before .before .before .before .before .before .before .before .before .before .before .before .before .before .pre .1 .1 .0, l .inv .2 .few-states)
+add-s c = let l = c .before .before .before .before .before .before .before .before .before .before .before .loop in omega (arith, c .before .before .before .before .before .before .before .before .before .before .loop-test .taken, l .inv .6)
 
 loop-less : tie.Need-loop-less Inv-loop μ-loop
 loop-less c = search needs
@@ -61,25 +62,26 @@ loop-less c = search needs
 loop-again : tie.Need-loop-again Inv-loop μ-loop
 loop-again c = let l = c .before .before .before .before .before .before .before .before .before .before .before .loop in
     let r = c .before .before .before .before .ranked in
-    let s = c .before .before .before .before .before .before .before .before .before .before .before .before .before .before .before .before .before .before .before .before .before .before in
+    let s = c .before .before .before .before .before .before .before .before .before .before .before .before .before .before .before .before .before in
     let a = s .args in
     let w = c .before .before .before .before .before .before .before .before .before .before .loop-test .taken in
-    ((filled-next _ _ (l .s) (r .result .rank) (l .after) (l .inv .0 .0) (omega (arith, w, l .inv .0 .2, s .pre .1 .1 .0, l .inv .2 .few-states)) (r .ensures .0), omega (arith, w), l .inv .0 .2), filled-next _ _ (l .s) (r .result .attack) (l .attacks) (l .inv .1) (omega (arith, w, s .pre .1 .1 .1 .0, s .pre .1 .1 .0, l .inv .2 .few-states)) (r .ensures .1 ∙ ap (λ (b : ℕ). attackAfter (played (a .readings) (a .controls) (lent 0 (a .input .now) (a .controllable .now) (a .latch .now) (a .next .now) (a .output) (a .gate .now) (a .left .now) (a .right .now))) (a .k) (a .t14) b (l .s)) (l .inv .1 .rest (l .s) (omega arith))), r .ensures .2, r .ensures .3)
+    ((filled-next _ _ (l .s) (r .result .rank) (l .after) (l .inv .0 .0) (omega (arith, w, l .inv .0 .2, l .inv .6)) (r .ensures .0), omega (arith, w), l .inv .0 .2), filled-next _ _ (l .s) (r .result .attack) (l .attacks) (l .inv .1) (omega (arith, w, s .pre .1 .0, l .inv .6)) (r .ensures .1 ∙ ap (λ (b : ℕ). attackAfter (netGame (a .net .now)) (a .k) (a .t5) b (l .s)) (l .inv .1 .rest (l .s) (omega arith))), r .ensures .2, search needs, search needs, l .inv .5, l .inv .6)
 
 same-length : tie.Need-same-length Inv-loop μ-loop
-same-length c = c .before .loop .inv .1 .long
+same-length c = c .before .loop .inv .3
 
 same-length-2 : tie.Need-same-length-2 Inv-loop μ-loop
-same-length-2 c = c .before .loop .inv .2 .looked-long ∙ sym (c .before .before .before .before .before .before .before .before .before .before .before .before .pre .1 .1 .1 .1 .looked-long)
+same-length-2 c = c .before .loop .inv .4
 
 same-length-3 : tie.Need-same-length-3 Inv-loop μ-loop
-same-length-3 c = c .before .loop .inv .2 .slots-long ∙ sym (c .before .before .before .before .before .before .before .before .before .before .before .before .pre .1 .1 .1 .1 .slots-long)
+same-length-3 c = c .before .loop .inv .1 .long
 
 returns : tie.Need-returns Inv-loop μ-loop
 unfolding roundTable ranksIn attacksAfter
 returns c = let l = c .before .loop in
-    let s = c .before .before .before .before .before .before .before .before .before .before .before .before in
-    (filled-end _ _ (s .args .states) (l .s) (l .after) (l .inv .0 .0) (omega arith) ∙ ap (table _) (l .inv .0 .2), filled-end _ _ (s .args .states) (l .s) (l .attacks) (l .inv .1) (omega arith), l .inv .2, l .inv .3)
+    let s = c .before .before .before .before .before .before .before in
+    let n = 2 ^ netLatches (s .args .net .now) in
+    (filled-end _ _ n (l .s) (l .after) (l .inv .0 .0) (omega (arith, l .inv .0 .1, l .inv .5, c .loop-test .left)) ∙ ap (table _) (l .inv .0 .2), filled-end _ _ n (l .s) (l .attacks) (l .inv .1) (omega (arith, l .inv .0 .1, l .inv .5, c .loop-test .left)), l .inv .2)
 
 pub round-spec : {M : Type 1} → statement M
 round-spec =
@@ -87,6 +89,7 @@ round-spec =
     (tie.spec
     Inv-loop
     μ-loop
+    states-requires
     loop-holds
     slice-aggregate-ranked
     cast-ranked

@@ -1,71 +1,152 @@
--- `solver::rounds::rounds` meets its contract: a game of few states and few places is small.
-use Prim.Native.Nat.{ℕ, _*_, _^_, min, _≤_}
+-- `solver::rounds::rounds` meets its contract: the list is that after k rounds; where a round changes nothing none after it does, and as many
+-- rounds as there are states suffice.
+use Prim.Native.Nat.{ℕ, _+_, _-_, _^_, _<_, _≤_}
 use native.Mathlib.Omega.{arith}
-use native.Mathlib.Nat.{mul-le-mul}
-use mathlib.Core.Path.{_≡_, ap, _∙_}
-use borrow.Author.Needs.{needs}
+use mathlib.Core.Bool.{not}
+use mathlib.Core.Path.{_≡_, sym, ap, _∙_}
+use lib.Dec.{eqb}
+use lib.ListN.{length}
+use borrow.Author.Tests.{not-true}
+use Rattle.below.specs.Least.{any}
+use Rattle.below.proofs.laws.Table.{length-table}
 use Rattle.circuit.specs.Limits.{base}
-use Rattle.circuit.specs.Stored.{lent}
-use Rattle.game.specs.Game.{Game}
-use Rattle.solver.specs.Fair.{Fair}
-use Rattle.solver.specs.PlacesOf.{fewStates}
-use Rattle.solver.specs.Played.{played}
-use Rattle.solver.proofs.laws.PlacesOf.{many-states, many-places}
-use Rattle.solver.proofs.laws.Solved.{lent-fair}
+use Rattle.keeping.specs.RankList.{ranksIn}
+use Rattle.net.specs.Net.{netLatches}
+use Rattle.solver.specs.contracts.Fair.{Fair}
+use Rattle.solver.specs.contracts.Kept.{Kept}
+use Rattle.solver.specs.contracts.NetGame.{netGame}
+use Rattle.solver.proofs.laws.Attacks.{AttacksAre, attacks-start, attacks-next, attacks-end}
+use Rattle.solver.proofs.laws.Kept.{kept-next, kept-most}
+use Rattle.solver.proofs.laws.Moves.{few-states}
+use Rattle.solver.proofs.laws.NetGame.{net-fair}
+use Rattle.solver.proofs.laws.RankTable.{Ranked, rounds-start, rounds-next, rounds-stop, rounds-end, ranked-long, round-long, ranks-most}
+use borrow.Author.Needs.{needs}
 use Rattle.solver.proofs.rounds.rounds.Statement.{statement}
 use Rattle.solver.proofs.rounds.rounds.Tie as tie
 
-abbrev game : tie.Start → Game
-game s = played (s .args .readings) (s .args .controls) (lent 0 (s .args .input .now) (s .args .controllable .now) (s .args .latch .now) (s .args .next .now) (s .args .output) (s .args .gate .now) (s .args .left .now) (s .args .right .now))
+abbrev Inv-loop : tie.InvT-loop
+Inv-loop net words₀ kept₀ planes₀ attacks₀ n ranks₀ k₀ words kept planes attacks ranks k = Ranked (netGame net) (2 ^ netLatches net) k ranks × AttacksAre (netGame net) ranks attacks × Kept net (ranksIn ranks) k kept planes × (length kept ≡ length kept₀) × (length planes ≡ length planes₀) × (n ≡ 2 ^ netLatches net)
 
-fair : (s : tie.Start) → Fair (game s) (s .args .states)
-fair s = let a = s .args in lent-fair 0 (a .input .now) (a .controllable .now) (a .latch .now) (a .next .now) (a .output) (a .gate .now) (a .left .now) (a .right .now) (a .readings) (a .controls) (a .states) (s .pre .1 .1 .0) (s .pre .1 .1 .1)
+abbrev μ-loop : tie.MeasureT-loop
+μ-loop net words₀ kept₀ planes₀ attacks₀ n ranks₀ k₀ words kept planes attacks ranks k = n - k
 
--- the product that is compared, by the game's own numbers
-places-are : (s : tie.Start) (n : ℕ) → n ≡ min (s .args .readings) (2 ^ base .uncontrollable) → s .args .states * n ≡ game s .states * game s .readings
-unfolding played
-places-are s n e = ap (λ (m : ℕ). s .args .states * m) e ∙ ap (λ (m : ℕ). m * min (s .args .readings) (2 ^ base .uncontrollable)) (fair s .all)
+fair : (s : tie.Start Inv-loop μ-loop) → Fair (netGame (s .args .net .now)) (2 ^ netLatches (s .args .net .now))
+fair s = net-fair (s .args .net .now) (s .pre .1 .small)
 
-full-rounds-requires : tie.Need-full-rounds-requires
-full-rounds-requires c κs = let s = c .before .before .before .before .before .before .before .before in (s .pre .0, (s .pre .1 .0, (s .pre .1 .1 .0, (s .pre .1 .1 .1, many-states (game s) (omega (arith, c .if1 .taken, fair s .all))))))
+few : (s : tie.Start Inv-loop μ-loop) → 2 ^ netLatches (s .args .net .now) ≤ 2 ^ base .latches
+few s = few-states (s .args .net .now) (s .pre .1 .small)
 
-returns : tie.Need-returns
-returns c = search needs
+attacks-long : (s : tie.Start Inv-loop μ-loop) → length (s .args .attacks .now) ≡ 2 ^ base .latches
+attacks-long s = ap length (s .pre .0) ∙ length-table {A = ℕ} (λ i. 0) (2 ^ base .latches)
 
-fewer-requires : tie.Need-fewer-requires
-fewer-requires c κs = search needs
+states-requires : tie.Need-states-requires Inv-loop μ-loop
+states-requires c κs = c .before .before .before .before .pre .1 .small
 
-mul-if2 : tie.Need-mul-if2
-mul-if2 c = let states = c .before .before .before .before .before .before .before .before .before .args .states in
-    let low : states ≤ fewStates = omega (arith, c .before .if1 .left) in
-    let narrow : c .fewer .result ≤ 2 ^ base .uncontrollable = omega (arith, c .fewer .ensures) in
-    omega (arith, mul-le-mul low narrow)
+zeros-requires : tie.Need-zeros-requires Inv-loop μ-loop
+zeros-requires c κs = search needs
 
-full-rounds-requires-2 : tie.Need-full-rounds-requires-2
-full-rounds-requires-2 c κs = let s = c .before .before .before .before .before .before .before .before .before .before in
-    let n = c .before .fewer in
-    (s .pre .0, (s .pre .1 .0, (s .pre .1 .1 .0, (s .pre .1 .1 .1, many-places (game s) (omega (arith, c .before .before .if1 .left, fair s .all)) (omega (arith, c .if2 .taken, places-are s (n .result) (n .ensures)))))))
+loop-holds : tie.Need-loop-holds Inv-loop μ-loop
+loop-holds c = let s = c .before .before .before .before .before .before in (rounds-start _ _ _ (c .zeros .ensures), attacks-start _ _ _ (c .zeros .ensures) (s .pre .0), rw (c .zeros .ensures) (s .pre .1), search needs, search needs, c .before .states .ensures)
 
-returns-2 : tie.Need-returns-2
-returns-2 c = search needs
+cast-round : tie.Need-cast-round Inv-loop μ-loop
+cast-round c = let l = c .before .before .before .before .loop in omega (arith, l .inv .0 .within, few (c .before .before .before .before .before .before .before .before .before .before .before))
 
-small-rounds-requires : tie.Need-small-rounds-requires
-small-rounds-requires c κs = let s = c .before .before .before .before .before .before .before .before .before .before in
-    let n = c .before .fewer in
-    (s .pre .0, (s .pre .1 .0, (s .pre .1 .1 .0, (s .pre .1 .1 .1, (omega (arith, c .before .before .if1 .left, fair s .all), omega (arith, c .if2 .left, places-are s (n .result) (n .ensures)))))))
+round-requires : tie.Need-round-requires Inv-loop μ-loop
+round-requires c κs = let l = c .before .before .before .before .before .loop in (omega (arith, l .inv .0 .within, few (c .before .before .before .before .before .before .before .before .before .before .before .before)), (l .inv .1 .long, l .inv .2))
 
-returns-3 : tie.Need-returns-3
-returns-3 c = search needs
+slice-aggregate-changes : tie.Need-slice-aggregate-changes Inv-loop μ-loop
+slice-aggregate-changes c = let l = c .before .before .before .before .before .before .before .before .before .before .before .before .before .loop in
+    let long : length (l .ranks) ≡ 2 ^ base .latches = ranked-long _ _ _ (l .ranks) (l .inv .0) in
+    search needs
+
+slice-aggregate-changes-2 : tie.Need-slice-aggregate-changes-2 Inv-loop μ-loop
+slice-aggregate-changes-2 c = let r = c .before .before .before .before .before .before .before .before .round in
+    let long : length (r .result) ≡ 2 ^ base .latches = round-long _ _ _ _ (r .result) (r .ensures .0) in
+    search needs
+
+changes-requires : tie.Need-changes-requires Inv-loop μ-loop
+changes-requires c κs = let l = c .before .before .before .before .before .before .before .before .before .before .before .before .before .before .loop in
+    let r = c .before .before .before .before .before .before .before .before .round in
+    (omega (arith, few (c .before .before .before .before .before .before .before .before .before .before .before .before .before .before .before .before .before .before .before .before .before), l .inv .5, ranked-long _ _ _ (l .ranks) (l .inv .0)), omega (arith, few (c .before .before .before .before .before .before .before .before .before .before .before .before .before .before .before .before .before .before .before .before .before), l .inv .5, round-long _ _ _ _ (r .result) (r .ensures .0)))
+
+same-length : tie.Need-same-length Inv-loop μ-loop
+same-length c = search needs
+
+same-length-2 : tie.Need-same-length-2 Inv-loop μ-loop
+same-length-2 c = search needs
+
+same-length-3 : tie.Need-same-length-3 Inv-loop μ-loop
+same-length-3 c = let s = c .before .before .before .before .before .before .before .before .before .before .before .before .before .before .before .before .before .before .before .before .before .before .before in
+    let l = c .before .before .before .before .before .before .before .before .before .before .before .before .before .before .before .before .loop in
+    let r = c .before .before .before .before .before .before .before .before .before .before .round in
+    let new = attacks-next _ _ (l .k) (l .ranks) (fair s) (l .inv .0) (omega (arith, c .before .before .before .before .before .before .before .before .before .before .before .before .before .before .before .loop-test .taken, l .inv .5)) _ (r .result) _ (l .inv .1) (r .ensures .0) (r .ensures .1) in
+    new .long ∙ sym (attacks-long s)
+
+returns : tie.Need-returns Inv-loop μ-loop
+returns c = let s = c .before .before .before .before .before .before .before .before .before .before .before .before .before .before .before .before .before .before .before .before .before .before .before in
+    let f = fair s in
+    let l = c .before .before .before .before .before .before .before .before .before .before .before .before .before .before .before .before .loop in
+    let r = c .before .before .before .before .before .before .before .before .before .before .round in
+    let more : l .k < 2 ^ netLatches (s .args .net .now) = omega (arith, c .before .before .before .before .before .before .before .before .before .before .before .before .before .before .before .loop-test .taken, l .inv .5) in
+    let new = attacks-next _ _ (l .k) (l .ranks) f (l .inv .0) more _ (r .result) _ (l .inv .1) (r .ensures .0) (r .ensures .1) in
+    let h = c .before .changes in
+    let next = rounds-next _ _ (l .k) (l .ranks) (r .result) f (l .inv .0) more (r .ensures .0) in
+    let last = rounds-stop _ _ (l .k) (l .ranks) (r .result) f (l .inv .0) (h .result) (r .ensures .0) (h .ensures ∙ ap (any (λ t. not (eqb (ranksIn (l .ranks) t) (ranksIn (r .result) t)))) (l .inv .5)) (not-true _ (c .if1 .taken)) in
+    let low : l .k + 1 ≤ 2 ^ base .latches = omega (arith, more, few s) in
+    (last, attacks-end _ (r .result) _ (f .few) last new, λ t. omega (arith, low, ranks-most _ _ (l .k + 1) (r .result) f next t), kept-most _ (l .k + 1) (2 ^ base .latches) (r .result) _ _ (kept-next _ _ _ (l .k) (l .ranks) (r .result) _ _ (r .ensures .2) (ranked-long _ _ _ (l .ranks) (l .inv .0)) (r .ensures .0)) low)
+
+add-k : tie.Need-add-k Inv-loop μ-loop
+add-k c = let l = c .before .before .before .before .before .before .before .before .before .before .before .before .before .before .before .before .loop in omega (arith, l .inv .0 .within, few (c .before .before .before .before .before .before .before .before .before .before .before .before .before .before .before .before .before .before .before .before .before .before .before))
+
+loop-less : tie.Need-loop-less Inv-loop μ-loop
+loop-less c = search needs
+
+loop-again : tie.Need-loop-again Inv-loop μ-loop
+loop-again c = let s = c .before .before .before .before .before .before .before .before .before .before .before .before .before .before .before .before .before .before .before .before .before .before .before in
+    let f = fair s in
+    let l = c .before .before .before .before .before .before .before .before .before .before .before .before .before .before .before .before .loop in
+    let r = c .before .before .before .before .before .before .before .before .before .before .round in
+    let more : l .k < 2 ^ netLatches (s .args .net .now) = omega (arith, c .before .before .before .before .before .before .before .before .before .before .before .before .before .before .before .loop-test .taken, l .inv .5) in
+    (rounds-next _ _ (l .k) (l .ranks) (r .result) f (l .inv .0) more (r .ensures .0), attacks-next _ _ (l .k) (l .ranks) f (l .inv .0) more _ (r .result) _ (l .inv .1) (r .ensures .0) (r .ensures .1), kept-next _ _ _ (l .k) (l .ranks) (r .result) _ _ (r .ensures .2) (ranked-long _ _ _ (l .ranks) (l .inv .0)) (r .ensures .0), search needs, search needs, l .inv .5)
+
+same-length-4 : tie.Need-same-length-4 Inv-loop μ-loop
+same-length-4 c = c .before .loop .inv .3
+
+same-length-5 : tie.Need-same-length-5 Inv-loop μ-loop
+same-length-5 c = c .before .loop .inv .4
+
+same-length-6 : tie.Need-same-length-6 Inv-loop μ-loop
+same-length-6 c = c .before .loop .inv .1 .long ∙ sym (attacks-long (c .before .before .before .before .before .before .before .before))
+
+returns-2 : tie.Need-returns-2 Inv-loop μ-loop
+returns-2 c = let f = fair (c .before .before .before .before .before .before .before .before) in
+    let l = c .before .loop in
+    let last = rounds-end _ _ (l .k) (l .ranks) (l .ranks) f (l .inv .0) (omega (arith, c .loop-test .left, l .inv .5)) in
+    let low : l .k ≤ 2 ^ base .latches = omega (arith, l .inv .0 .within, few (c .before .before .before .before .before .before .before .before)) in
+    (last, attacks-end _ (l .ranks) _ (f .few) last (l .inv .1), λ t. omega (arith, low, ranks-most _ _ (l .k) (l .ranks) f (l .inv .0) t), kept-most _ (l .k) (2 ^ base .latches) (l .ranks) _ _ (l .inv .2) low)
 
 pub rounds-spec : {M : Type 1} → statement M
 rounds-spec =
     tie.close
     (tie.spec
-    full-rounds-requires
+    Inv-loop
+    μ-loop
+    states-requires
+    zeros-requires
+    loop-holds
+    cast-round
+    round-requires
+    slice-aggregate-changes
+    slice-aggregate-changes-2
+    changes-requires
+    same-length
+    same-length-2
+    same-length-3
     returns
-    fewer-requires
-    mul-if2
-    full-rounds-requires-2
-    returns-2
-    small-rounds-requires
-    returns-3)
+    add-k
+    loop-less
+    loop-again
+    same-length-4
+    same-length-5
+    same-length-6
+    returns-2)

@@ -1,0 +1,6 @@
+pub mod Fair
+pub mod NetGame
+pub mod Moves
+pub mod Planes
+pub mod Kept
+pub mod AttacksAfter
