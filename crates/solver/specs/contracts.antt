@@ -1,5 +1,5 @@
 pub mod Fair
-pub mod NetGame
+pub mod SolvableNet
 pub mod Moves
 pub mod Planes
 pub mod Kept

@@ -15,7 +15,8 @@ ghost use Rattle.circuit.specs.Stored.{meant, solvable};
 ghost use Rattle.game.specs.CircuitGame.{circuitGame};
 ghost use Rattle.net.specs.InOrder.{InOrder};
 ghost use Rattle.solver.specs.Solution.{solutionOf};
-ghost use Rattle.solver.specs.contracts.NetGame.{netGame, solvableNet};
+ghost use Rattle.game.specs.NetGame.{netGame};
+ghost use Rattle.solver.specs.contracts.SolvableNet.{solvableNet};
 
 // What the solver answers: ranks and attacks of the states, and replies, at index s × 2^U + reading; 0 behind the last.
 pub struct Solution {

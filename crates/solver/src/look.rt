@@ -19,7 +19,7 @@ ghost use Rattle.keeping.specs.RankList.{ranksIn};
 ghost use Rattle.net.specs.Net.{netControls, netReadings, netLatches};
 ghost use Rattle.solver.specs.contracts.Kept.{Kept, Behind};
 ghost use Rattle.solver.specs.contracts.Moves.{Small, moveKeeps, placeKeeps, places};
-ghost use Rattle.solver.specs.contracts.NetGame.{netGame};
+ghost use Rattle.game.specs.NetGame.{netGame};
 ghost use Rattle.solver.specs.contracts.Planes.{AllHeld};
 
 // A move, and the state that it leads to.

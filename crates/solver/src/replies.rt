@@ -16,7 +16,7 @@ ghost use Rattle.keeping.specs.RankList.{ranksIn};
 ghost use Rattle.net.specs.Net.{netReadings};
 ghost use Rattle.solver.specs.contracts.Kept.{Kept};
 ghost use Rattle.solver.specs.contracts.Moves.{places};
-ghost use Rattle.solver.specs.contracts.NetGame.{netGame};
+ghost use Rattle.game.specs.NetGame.{netGame};
 ghost use Rattle.solver.specs.Over.{found as foundOf, replyOver};
 
 // Puts the replies of the states of rank 0, where no rank is above k; the others stay 0.

@@ -12,7 +12,7 @@ ghost use Rattle.below.specs.Table.{table};
 ghost use Rattle.circuit.specs.Limits.{base};
 ghost use Rattle.solver.specs.Solution.{solutionOf};
 ghost use Rattle.solver.specs.contracts.Moves.{Small, places};
-ghost use Rattle.solver.specs.contracts.NetGame.{netGame};
+ghost use Rattle.game.specs.NetGame.{netGame};
 ghost use Rattle.solver.specs.contracts.Planes.{slot};
 
 // Places and slots of a small game, and slots of a middling one; a large one has a slot for each place.

@@ -21,7 +21,7 @@ ghost use Rattle.keeping.specs.RankList.{ranksIn};
 ghost use Rattle.net.specs.Net.{netLatches};
 ghost use Rattle.solver.specs.contracts.AttacksAfter.{attackAfter, attacksAfter};
 ghost use Rattle.solver.specs.contracts.Kept.{Kept};
-ghost use Rattle.solver.specs.contracts.NetGame.{netGame};
+ghost use Rattle.game.specs.NetGame.{netGame};
 ghost use Rattle.solver.specs.RankTable.{rankTable, roundTable};
 ghost use Rattle.solver.specs.Solution.{attackTable, solutionOf};
 

@@ -20,7 +20,7 @@ use Rattle.game.specs.Rank.{notRanked, defeats}
 use Rattle.net.specs.Move.{moveOf}
 use Rattle.net.specs.Net.{netControls, netReadings, netLatches, netStep}
 use Rattle.solver.specs.contracts.Moves.{Small, moveKeeps, placeKeeps, places}
-use Rattle.solver.specs.contracts.NetGame.{netGame}
+use Rattle.game.specs.NetGame.{netMove, netGame}
 
 module _ (net : List ℕ) (set : ℕ → Bool) (s r : ℕ) (state : s < 2 ^ netLatches net) (reading : r < 2 ^ netReadings net) where
   move-is : (k : ℕ) → k < 2 ^ netControls net → moveOf (netLatches net) (netReadings net) (netControls net) s r k ≡ (s * 2 ^ netReadings net + r) * 2 ^ netControls net + k
@@ -28,7 +28,7 @@ module _ (net : List ℕ) (set : ℕ → Bool) (s r : ℕ) (state : s < 2 ^ netL
   move-is k h = rw (mod-eq-of-lt state, mod-eq-of-lt reading, mod-eq-of-lt h) refl
 
   pub keeps-move : (k : ℕ) → k < 2 ^ netControls net → placeKeeps net set (s * 2 ^ netReadings net + r) k ≡ keeps (netGame net) set s r k
-  unfolding placeKeeps moveKeeps keeps netGame netStep
+  unfolding placeKeeps moveKeeps keeps netGame netMove netStep
   keeps-move k h = ap (moveKeeps net set) (sym (move-is k h))
 
   pub least-move : least (placeKeeps net set (s * 2 ^ netReadings net + r)) (2 ^ netControls net) ≡ least (keeps (netGame net) set s r) (2 ^ netControls net)

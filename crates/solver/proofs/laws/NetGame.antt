@@ -1,32 +1,22 @@
--- The game of a net is a fair one, and that of a circuit's net is the circuit's. Assumes nothing.
-use Prim.Native.Nat.{ℕ, _+_, _^_, _<_, _≤_}
+-- The game of a net is a fair one. Assumes nothing.
+use Prim.Native.Nat.{ℕ, _^_, _<_, _≤_}
 use native.Mathlib.Omega.{arith}
 use native.Mathlib.Nat.{pow-le-pow-right}
-use mathlib.Core.Bool.{Bool, true, false, cond, _||_}
+use mathlib.Core.Bool.{Bool}
 use mathlib.Core.List.{List, [], _∷_, map}
-use mathlib.Core.Path.{_≡_, refl, sym, ap, _∙_}
-use lib.Dec.{ltb}
+use mathlib.Core.Path.{refl}
 use lib.ListN.{length, take, drop, length-take, length-map}
 use lib.Pow.{pow-pos}
 use Rattle.bits.specs.Bit.{oneIf}
 use Rattle.bits.specs.Digits.{sum, AllBelow}
-use Rattle.bits.proofs.laws.Digits.{sum-below, all-below-of}
-use Rattle.circuit.specs.Circuit.{Circuit, latchCount, uncontrollableCount, controllableCount, tooMany}
-use Rattle.circuit.specs.Limits.{base}
-use Rattle.circuit.specs.Stored.{emptyCircuit, solvable}
-use Rattle.game.specs.CircuitGame.{circuitGame}
-use Rattle.game.specs.Game.{Game, Proper}
-use Rattle.net.specs.InOrder.{InOrder}
-use Rattle.net.specs.Move.{moveOf}
-use Rattle.net.specs.Net.{netControls, netReadings, netLatches, netNexts, netNext, netStep, netValues}
-use Rattle.net.specs.NetOf.{netOf}
-use Rattle.net.proofs.laws.NetStep.{net-step-is}
+use Rattle.bits.proofs.laws.Digits.{sum-below}
+use Rattle.game.specs.Game.{Proper}
+use Rattle.game.specs.NetGame.{netGame}
+use Rattle.net.specs.Net.{netControls, netLatches, netNexts, netNext, netStep, netValues}
 use Rattle.step.specs.Value.{literalValue}
 use Rattle.step.proofs.laws.Truths.{one-if-bit}
-use Rattle.step.specs.Step.{step}
 use Rattle.solver.specs.contracts.Fair.{Fair}
 use Rattle.solver.specs.contracts.Moves.{Small}
-use Rattle.solver.specs.contracts.NetGame.{netGame, solvableNet}
 use Rattle.solver.proofs.laws.Moves.{few-states}
 
 bits-below : (f : ℕ → Bool) (ls : List ℕ) → AllBelow 2 (map (λ (l : ℕ). oneIf (f l)) ls)
@@ -56,8 +46,3 @@ net-proper net = record { leads = λ s r k. next-below net _; choice = pow-pos (
 pub net-fair : (net : List ℕ) → Small net → Fair (netGame net) (2 ^ netLatches net)
 unfolding netGame
 net-fair net small = record { proper = net-proper net; few = few-states net small; all = refl }
-
--- the net of a circuit plays the circuit's game
-pub net-game : (c : Circuit) → netGame (netOf c) ≡ circuitGame c
-unfolding netGame circuitGame netLatches netReadings netControls netOf
-net-game c = λ x. record { states = 2 ^ latchCount c; readings = 2 ^ uncontrollableCount c; controls = 2 ^ controllableCount c; step = λ s r k. net-step-is c s r k x }

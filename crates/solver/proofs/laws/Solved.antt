@@ -31,9 +31,11 @@ use Rattle.solver.specs.Over.{replyOver}
 use Rattle.solver.specs.RankTable.{rankTable}
 use Rattle.solver.specs.Solution.{replyTable}
 use Rattle.solver.specs.contracts.Moves.{Small, places}
-use Rattle.solver.specs.contracts.NetGame.{netGame, solvableNet}
+use Rattle.game.specs.NetGame.{netGame}
+use Rattle.solver.specs.contracts.SolvableNet.{solvableNet}
 use Rattle.solver.proofs.laws.Moves.{state-of, reading-of, few-states}
-use Rattle.solver.proofs.laws.NetGame.{net-game, net-proper}
+use Rattle.game.proofs.laws.NetGame.{net-game}
+use Rattle.solver.proofs.laws.NetGame.{net-proper}
 use Rattle.solver.proofs.laws.Over.{reply-over-is-reply}
 
 -- the replies found at each place are the game's

@@ -11,7 +11,8 @@ use Rattle.net.specs.Made.{most}
 use Rattle.net.specs.NetOf.{netOf}
 use Rattle.net.proofs.laws.InOrder.{Room, net-in-order}
 use Rattle.solver.specs.Solution.{solutionOf}
-use Rattle.solver.specs.contracts.NetGame.{netGame, solvableNet}
+use Rattle.game.specs.NetGame.{netGame}
+use Rattle.solver.specs.contracts.SolvableNet.{solvableNet}
 use Rattle.solver.proofs.laws.Solved.{made-front, made-long, value-room, net-few, solvable-game}
 use borrow.Author.Needs.{needs}
 use Rattle.solver.proofs.solve.Statement.{statement}

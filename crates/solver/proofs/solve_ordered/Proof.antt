@@ -1,7 +1,7 @@
 -- `solver::solve_ordered` meets its contract: the counts of the net decide.
 use mathlib.Core.Path.{_≡_, sym, ap, _∙_}
 use Rattle.solver.specs.Solution.{solutionOf}
-use Rattle.solver.specs.contracts.NetGame.{netGame}
+use Rattle.game.specs.NetGame.{netGame}
 use Rattle.solver.proofs.laws.Solved.{empty-small, many-empty, few-itself, few-small}
 use borrow.Author.Needs.{needs}
 use Rattle.solver.proofs.solve_ordered.Statement.{statement}

@@ -9,7 +9,7 @@ use Rattle.game.specs.Rank.{defeats}
 use Rattle.keeping.specs.RankList.{ranksIn}
 use Rattle.net.specs.Net.{netReadings}
 use Rattle.solver.specs.contracts.Kept.{Kept}
-use Rattle.solver.specs.contracts.NetGame.{netGame}
+use Rattle.game.specs.NetGame.{netGame}
 use Rattle.solver.proofs.laws.Moves.{defeats-place, place-within, first-fits, few-readings}
 use borrow.Author.Needs.{needs}
 use Rattle.solver.proofs.look.least_defeat.Statement.{statement}

@@ -13,7 +13,7 @@ use Rattle.keeping.specs.RankList.{ranksIn}
 use Rattle.net.specs.Net.{netReadings}
 use Rattle.solver.specs.contracts.Kept.{Kept}
 use Rattle.solver.specs.contracts.Moves.{places}
-use Rattle.solver.specs.contracts.NetGame.{netGame}
+use Rattle.game.specs.NetGame.{netGame}
 use Rattle.solver.specs.Over.{replyOver}
 use Rattle.solver.proofs.laws.Moves.{few-places, places-are}
 use borrow.Author.Needs.{needs}

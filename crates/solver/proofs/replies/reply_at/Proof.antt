@@ -6,7 +6,7 @@ use lib.Pow.{pow-pos}
 use Rattle.game.specs.Rank.{notRanked}
 use Rattle.keeping.specs.RankList.{ranksIn}
 use Rattle.net.specs.Net.{netReadings}
-use Rattle.solver.specs.contracts.NetGame.{netGame}
+use Rattle.game.specs.NetGame.{netGame}
 use Rattle.solver.proofs.laws.Moves.{least-place, few-controls}
 use Rattle.solver.proofs.laws.Over.{no-reply, reply-found}
 use borrow.Author.Needs.{needs}

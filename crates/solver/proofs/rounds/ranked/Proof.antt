@@ -3,7 +3,7 @@
 use native.Mathlib.Omega.{arith}
 use mathlib.Core.Path.{sym, _∙_}
 use Rattle.keeping.specs.RankList.{ranksIn}
-use Rattle.solver.specs.contracts.NetGame.{netGame}
+use Rattle.game.specs.NetGame.{netGame}
 use Rattle.solver.proofs.laws.Attacks.{attack-kept, attack-new, attack-none}
 use Rattle.solver.proofs.laws.Moves.{few-readings}
 use Rattle.solver.proofs.laws.RankTable.{rank-kept, rank-given, rank-none}

@@ -11,7 +11,7 @@ use Rattle.keeping.specs.RankList.{ranksIn}
 use Rattle.net.specs.Net.{netLatches}
 use Rattle.solver.specs.contracts.AttacksAfter.{attackAfter, attacksAfter}
 use Rattle.solver.specs.contracts.Kept.{Kept}
-use Rattle.solver.specs.contracts.NetGame.{netGame}
+use Rattle.game.specs.NetGame.{netGame}
 use Rattle.solver.specs.RankTable.{roundTable}
 use Rattle.solver.proofs.laws.Moves.{few-states}
 use borrow.Author.Needs.{needs}

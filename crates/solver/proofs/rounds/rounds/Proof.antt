@@ -14,7 +14,7 @@ use Rattle.keeping.specs.RankList.{ranksIn}
 use Rattle.net.specs.Net.{netLatches}
 use Rattle.solver.specs.contracts.Fair.{Fair}
 use Rattle.solver.specs.contracts.Kept.{Kept}
-use Rattle.solver.specs.contracts.NetGame.{netGame}
+use Rattle.game.specs.NetGame.{netGame}
 use Rattle.solver.proofs.laws.Attacks.{AttacksAre, attacks-start, attacks-next, attacks-end}
 use Rattle.solver.proofs.laws.Kept.{kept-next, kept-most}
 use Rattle.solver.proofs.laws.Moves.{few-states}
