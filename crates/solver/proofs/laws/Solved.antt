@@ -9,15 +9,16 @@ use mathlib.Core.Path.{_≡_, refl, sym, ap, _∙_, subst}
 use lib.Dec.{ltb}
 use lib.ListN.{length, getD, take, replicate, length-take, length-append, length-map, length-replicate}
 use lib.Seq.{take-take, take-append-seam}
+use lib.Pow.{pow-mono}
 use borrow.Author.Tests.{le-ltb}
 use Rattle.below.specs.Table.{table}
 use Rattle.below.proofs.laws.Table.{table-same, length-table}
-use Rattle.circuit.specs.Circuit.{Circuit, Latch, Gate, latchCount, uncontrollableCount, controllableCount, inputsThat}
+use Rattle.circuit.specs.Circuit.{Circuit, Latch, Gate, latchCount, uncontrollableCount, controllableCount, inputsThat, tooMany}
 use Rattle.circuit.specs.Limits.{base}
 use Rattle.circuit.specs.Literal.{constant, variable}
 use Rattle.circuit.specs.Stored.{emptyCircuit, meant, lent, inputsOf, latchesOf, gatesOf, padded, solvable}
 use Rattle.circuit.specs.declared.Circuit.{Circuit as Value}
-use Rattle.circuit.proofs.laws.Solvable.{many-solved-empty, few-solved, few-are}
+use Rattle.circuit.proofs.laws.Solvable.{many-solved-empty, few-solved, few-are, lent-latches}
 use Rattle.game.specs.CircuitGame.{circuitGame}
 use Rattle.game.specs.Game.{Game}
 use Rattle.game.specs.Reply.{reply}
@@ -137,3 +138,13 @@ net-few c room = omega (arith, room .latches, room .gates, length-append nexts o
 
     operands : List ℕ
     operands = operandsOf (c .gates) (gateStart c) (firstNames c)
+
+-- of a circuit over lent lists: no more states than a circuit may have
+module _ (largest : ℕ) (input controllable latch next : List ℕ) (output : ℕ) (gate left right : List ℕ) where
+  pub solvable-few : (circuitGame (solvable (lent largest input controllable latch next output gate left right))) .states ≤ 2 ^ base .latches
+  unfolding solvable circuitGame emptyCircuit latchCount
+  solvable-few = by (tooMany base (lent largest input controllable latch next output gate left right))
+    where
+      by : (b : Bool) → 2 ^ latchCount (cond b emptyCircuit (lent largest input controllable latch next output gate left right)) ≤ 2 ^ base .latches
+      by true = omega arith
+      by false = pow-mono {i = latchCount (lent largest input controllable latch next output gate left right)} {j = base .latches} (omega (arith, lent-latches largest input controllable latch next output gate left right))
