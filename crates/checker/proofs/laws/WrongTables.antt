@@ -12,6 +12,7 @@ use lib.ListN.{length}
 use lib.Pow.{pow-pos}
 use Rattle.below.specs.Least.{least}
 use Rattle.below.proofs.laws.Least.{any-of, any-least, any-holds, every-at, every-of}
+use Rattle.bits.specs.BitBytes.{unusedBit as unusedIn}
 use Rattle.bits.specs.ByteBit.{byteBit}
 use Rattle.bits.proofs.laws.Bytes.{both-true}
 use Rattle.circuit.specs.Circuit.{Circuit, latchCount, uncontrollableCount}
@@ -42,7 +43,7 @@ holds-state region L s h =
 
 -- 13
 unused-bit : (region : List ℕ) (L : ℕ) → unusedBitSet region L ≡ true → (i : ℕ) × (2 ^ L ≤ i) × (i < 8 * length region) × (byteBit region i ≡ 1)
-unfolding unusedBitSet
+unfolding unusedBitSet unusedIn
 unused-bit region L e =
     let p : ℕ → Bool = λ i. leb (2 ^ L) i && eqb (byteBit region i) 1 in
     let n : ℕ = 8 * length region in
@@ -50,7 +51,7 @@ unused-bit region L e =
     (least p n, leb-true _ _ high, any-least p n e, eqb-true _ 1 one)
 
 bit-unused : (region : List ℕ) (L i : ℕ) → 2 ^ L ≤ i → i < 8 * length region → byteBit region i ≡ 1 → unusedBitSet region L ≡ true
-unfolding unusedBitSet
+unfolding unusedBitSet unusedIn
 bit-unused region L i high h one =
     any-of (λ j. leb (2 ^ L) j && eqb (byteBit region j) 1) (8 * length region) i h (rw (le-leb (2 ^ L) i high, eq-eqb (byteBit region i) 1 one))
 
