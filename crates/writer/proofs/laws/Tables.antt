@@ -25,7 +25,7 @@ use Rattle.game.specs.Rank.{rank, inRegion}
 use Rattle.game.specs.Reply.{reply}
 use Rattle.keeping.specs.RankList.{ranksIn}
 use Rattle.records.specs.AttackTable.{attackBytes}
-use Rattle.records.specs.RegionBits.{bitBytes, regionLength}
+use Rattle.records.specs.RegionBits.{regionBytes}
 use Rattle.records.specs.ReplyBytes.{replyBytes, replyLength}
 use Rattle.records.proofs.laws.Rows.{rows-in-turn}
 use Rattle.solver.specs.Over.{rankZero}
