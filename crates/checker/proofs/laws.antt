@@ -6,7 +6,7 @@ pub mod Stages
 pub mod Faults
 pub mod Judged
 pub mod Places
-pub mod Defeats
+pub mod Answered
 pub mod Sizes
 pub mod Shaped
 pub mod Counted

@@ -1,21 +1,35 @@
--- A broken step rule of the stored tables, at one place (01, "The numbers", 15). Assumes nothing.
-use Prim.Native.Nat.{ℕ}
+-- A broken step rule of the stored tables, at one place (01, "The numbers", 15), in the game of a net. Assumes nothing.
+use Prim.Native.Nat.{ℕ, _/_, _%_, _^_}
 use mathlib.Core.Bool.{Bool}
 use mathlib.Core.List.{List}
-use Rattle.circuit.specs.Circuit.{Circuit, latchCount, uncontrollableCount}
 use Rattle.game.specs.Attack.{attackBroken}
-use Rattle.game.specs.CircuitGame.{circuitGame}
+use Rattle.game.specs.NetGame.{netGame, netMove}
 use Rattle.game.specs.Reply.{replyBroken}
+use Rattle.net.specs.Net.{netLatches, netReadings}
 use Rattle.records.specs.AttackTable.{storedRank, storedAttack}
 use Rattle.records.specs.RegionBits.{holdsState}
 use Rattle.records.specs.ReplyBytes.{storedReply}
 
+-- the state and the reading of a place s × 2^U + reading, and the stored reply there
+abbrev pub stateAt : (net : List ℕ) (place : ℕ) → ℕ
+stateAt net i = i / 2 ^ netReadings net
+
+abbrev pub readingAt : (net : List ℕ) (place : ℕ) → ℕ
+readingAt net i = i % 2 ^ netReadings net
+
+abbrev pub replyIn : (net table : List ℕ) (place : ℕ) → ℕ
+replyIn net table i = storedReply table (netLatches net) (netReadings net) (stateAt net i) (readingAt net i)
+
+-- the move of that reply
+unfoldable pub replyMove : (net table : List ℕ) (place : ℕ) → ℕ
+replyMove net table i = netMove net (stateAt net i) (readingAt net i) (replyIn net table i)
+
 -- the stored reply to a reading at a state of the stored region breaks it
-unfoldable pub replyFault : Circuit → (region table : List ℕ) → (state reading : ℕ) → Bool
-replyFault c region table s r =
-    replyBroken (circuitGame c) (holdsState region (latchCount c)) (storedReply table (latchCount c) (uncontrollableCount c)) s r
+unfoldable pub replyFault : (net region table : List ℕ) (place : ℕ) → Bool
+replyFault net region table i =
+    replyBroken (netGame net) (holdsState region (netLatches net)) (storedReply table (netLatches net) (netReadings net)) (stateAt net i)
+    (readingAt net i)
 
 -- the stored attack of a state of a stored rank above 0 breaks it
-unfoldable pub attackFault : Circuit → (table : List ℕ) → (state : ℕ) → Bool
-attackFault c table s =
-    attackBroken (circuitGame c) (storedRank table (latchCount c)) (storedAttack table (latchCount c)) s
+unfoldable pub attackFault : (net table : List ℕ) (state : ℕ) → Bool
+attackFault net table s = attackBroken (netGame net) (storedRank table (netLatches net)) (storedAttack table (netLatches net)) s

@@ -3,7 +3,7 @@ pub mod Rules
 pub mod Check
 pub mod Answer
 pub mod CircuitChecked
-pub mod Counted
+pub mod Sized
 pub mod Faults
 pub mod StoredRegion
 pub mod WrongTables

@@ -1,38 +1,39 @@
-// The check of an attack certificate's table (01, "The numbers", 13 to 15), over lent arrays.
+// The check of an attack certificate's table (01, "The numbers", 13 to 15), over a net.
 use crate::Checked;
+use crate::counts::controls_of;
+use crate::counts::latches_of;
+use crate::counts::readings_of;
 use crate::power;
+use blocks::LITERALS;
 use circuit::Refusal;
+use net::moves::move_of;
 use records::stored::stored_attack;
 use records::stored::stored_rank;
-use rules::defeats;
+use rules::some_keeps;
+use step::Control;
 use step::Reading;
+ghost use Prim.Native.Nat.{ℕ, _+_, _-_, _^_, min};
 ghost use mathlib.Core.Path.{_≡_};
-ghost use Rattle.circuit.specs.Stored.{lent};
+ghost use Rattle.below.specs.Least.{least, any};
+ghost use Rattle.blocks.specs.Lane.{width, litsIn};
+ghost use Rattle.circuit.specs.Circuit.{Circuit};
+ghost use Rattle.game.specs.Keeps.{answered};
+ghost use Rattle.game.specs.NetGame.{netGame, keepsBy};
+ghost use Rattle.game.specs.Rank.{notRanked};
+ghost use Rattle.net.specs.Net.{netLatches, netReadings, netControls};
+ghost use Rattle.net.specs.NetOf.{netOf};
+ghost use Rattle.records.specs.AttackTable.{storedRank};
 ghost use Rattle.checker.specs.Answer.{ofAttacks, checkedOutcome};
 ghost use Rattle.checker.specs.CircuitChecked.{attacksJudged};
-ghost use Rattle.checker.specs.Counted.{Counted};
 ghost use Rattle.checker.specs.Faults.{attackFault};
-ghost use Rattle.checker.specs.Rules.{brokenAttack};
+ghost use Rattle.checker.specs.Sized.{Sized};
 
 // 13, 14 and 15 of an attack table; where it starts is answered where none applies.
-pub(crate) fn check_attacks<'a>(
-    input: &'a [u16],
-    controllable: &'a [u8],
-    latch: &'a [u16],
-    next: &'a [u16],
-    output: u16,
-    gate: &'a [u16],
-    left: &'a [u16],
-    right: &'a [u16],
-    latches: usize,
-    readings: usize,
-    controls: usize,
-    table: &'a [u8],
-    start: usize,
-) -> Checked
-    requires { ⌜ Counted (lent 0 (now input) (now controllable) (now latch) (now next) output (now gate) (now left) (now right)) latches readings controls ⌝ }
-    ensures { λ r. ⌜ checkedOutcome r ≡ attacksJudged (lent 0 (now (input .entry)) (now (controllable .entry)) (now (latch .entry)) (now (next .entry)) output (now (gate .entry)) (now (left .entry)) (now (right .entry))) (now (table .entry)) (ofAttacks start latches readings) ⌝ }
+pub(crate) fn check_attacks<'a>(net: &'a [u16], table: &'a [u8], start: usize) -> Checked
+    requires { ⌜ Sized (now net) ⌝ }
+    ensures { λ r. ⌜ ((c : Circuit) → now (net .entry) ≡ netOf c → checkedOutcome r ≡ attacksJudged c (now (table .entry)) (ofAttacks start (netLatches (now (net .entry))) (netReadings (now (net .entry))))) ⌝ }
 {
+    let latches = latches_of(net);
     let states = power(latches);
     if table.len() != 3 * states {
         return Checked::Refused(Refusal {
@@ -46,20 +47,7 @@ pub(crate) fn check_attacks<'a>(
             place: 0,
         });
     }
-    let place = broken_attack(
-        input,
-        controllable,
-        latch,
-        next,
-        output,
-        gate,
-        left,
-        right,
-        latches,
-        readings,
-        controls,
-        table,
-    );
+    let place = broken_attack(net, table);
     if place < states {
         return Checked::Refused(Refusal {
             number: crate::BROKEN_STEP,
@@ -69,46 +57,19 @@ pub(crate) fn check_attacks<'a>(
     Checked::Attacks {
         table: start,
         latches,
-        readings,
+        readings: readings_of(net),
     }
 }
 
 // The lowest s whose attack breaks the step rule, or 2^L where none does.
-fn broken_attack<'a>(
-    input: &'a [u16],
-    controllable: &'a [u8],
-    latch: &'a [u16],
-    next: &'a [u16],
-    output: u16,
-    gate: &'a [u16],
-    left: &'a [u16],
-    right: &'a [u16],
-    latches: usize,
-    readings: usize,
-    controls: usize,
-    table: &'a [u8],
-) -> usize
-    requires { ⌜ Counted (lent 0 (now input) (now controllable) (now latch) (now next) output (now gate) (now left) (now right)) latches readings controls ⌝ }
-    ensures { λ r. ⌜ r ≡ brokenAttack (lent 0 (now (input .entry)) (now (controllable .entry)) (now (latch .entry)) (now (next .entry)) output (now (gate .entry)) (now (left .entry)) (now (right .entry))) (now (table .entry)) ⌝ }
+fn broken_attack<'a>(net: &'a [u16], table: &'a [u8]) -> usize
+    requires { ⌜ Sized (now net) ⌝ }
+    ensures { λ r. ⌜ r ≡ least (attackFault (now (net .entry)) (now (table .entry))) (2 ^ netLatches (now (net .entry))) ⌝ }
 {
-    let n = power(latches);
+    let n = power(latches_of(net));
     let mut s = 0;
     while s < n {
-        if attack_broken(
-            input,
-            controllable,
-            latch,
-            next,
-            output,
-            gate,
-            left,
-            right,
-            latches,
-            readings,
-            controls,
-            table,
-            s as u16,
-        ) {
+        if attack_broken(net, table, s as u16) {
             return s;
         }
         s += 1;
@@ -117,46 +78,63 @@ fn broken_attack<'a>(
 }
 
 // Whether the attack of a state breaks the step rule.
-fn attack_broken<'a>(
-    input: &'a [u16],
-    controllable: &'a [u8],
-    latch: &'a [u16],
-    next: &'a [u16],
-    output: u16,
-    gate: &'a [u16],
-    left: &'a [u16],
-    right: &'a [u16],
-    latches: usize,
-    readings: usize,
-    controls: usize,
-    table: &'a [u8],
-    state: u16,
-) -> bool
-    requires { ⌜ Counted (lent 0 (now input) (now controllable) (now latch) (now next) output (now gate) (now left) (now right)) latches readings controls ⌝ }
-    ensures { λ r. ⌜ r ≡ attackFault (lent 0 (now (input .entry)) (now (controllable .entry)) (now (latch .entry)) (now (next .entry)) output (now (gate .entry)) (now (left .entry)) (now (right .entry))) (now (table .entry)) state ⌝ }
+fn attack_broken<'a>(net: &'a [u16], table: &'a [u8], state: u16) -> bool
+    requires { ⌜ Sized (now net) ⌝ }
+    ensures { λ r. ⌜ r ≡ attackFault (now (net .entry)) (now (table .entry)) state ⌝ }
 {
+    let latches = latches_of(net);
     let rank = stored_rank(table, latches, state as usize);
     if rank < 1 {
         return false;
     }
     let attack = stored_attack(table, latches, state as usize);
-    if power(readings) <= attack as usize {
+    if power(readings_of(net)) <= attack as usize {
         return true;
     }
-    !defeats(
-        input,
-        controllable,
-        latch,
-        next,
-        output,
-        gate,
-        left,
-        right,
-        table,
+    is_answered(net, table, rank - 1, state, attack)
+}
+
+// Whether some control, at a state and reading, keeps out of the states of stored rank 1 to a bound. The moves of the controls stand in turn: in
+// one part of a block, or in whole blocks.
+fn is_answered<'a>(net: &'a [u16], table: &'a [u8], bound: u16, state: u16, reading: u8) -> bool
+    requires { ⌜ Sized (now net) ⌝ }
+    ensures { λ r. ⌜ r ≡ answered (netGame (now (net .entry))) (notRanked (storedRank (now (table .entry)) (netLatches (now (net .entry)))) bound) state reading ⌝ }
+{
+    let latches = latches_of(net);
+    let controls = controls_of(net);
+    let first = move_of(
         latches,
-        power(controls),
-        rank - 1,
+        readings_of(net),
+        controls,
         state,
-        Reading(attack),
-    )
+        Reading(reading),
+        Control(0),
+    );
+    let end = first + power(controls);
+    let mut words = [0; LITERALS];
+    let mut m = first;
+    while m < end {
+        let block = m / 64;
+        blocks::evaluate(net, block, &mut words);
+        if block_keeps(net, &words, table, latches, bound, m % 64, end - block * 64) {
+            return true;
+        }
+        m = (block + 1) * 64;
+    }
+    false
+}
+
+// Whether some lane of the words keeps, from one to an end.
+fn block_keeps<'a>(
+    net: &'a [u16],
+    words: &'a [u64; LITERALS],
+    table: &'a [u8],
+    latches: usize,
+    bound: u16,
+    from: usize,
+    end: usize,
+) -> bool
+    ensures { λ r. ⌜ r ≡ any (λ i. keepsBy (notRanked (storedRank (now (table .entry)) latches) bound) (now (net .entry)) (litsIn (now (words .entry)) (from + i))) (min end width - from) ⌝ }
+{
+    some_keeps(net, words, table, latches, bound, from, end)
 }

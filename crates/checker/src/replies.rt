@@ -1,49 +1,49 @@
-// The check of a reply certificate's tables (01, "The numbers", 13 to 15), over lent arrays.
+// The check of a reply certificate's tables (01, "The numbers", 13 to 15), over a net.
 use crate::Checked;
+use crate::counts::controls_of;
+use crate::counts::latches_of;
+use crate::counts::readings_of;
 use crate::power;
 use bits::bytes::byte_bit;
+use blocks::LITERALS;
 use circuit::Refusal;
+use net::moves::move_of;
 use records::stored::holds_state;
 use records::stored::stored_reply;
-use rules::keeps_region;
+use rules::lane_keeps_region;
 use step::Control;
 use step::Reading;
+ghost use Prim.Native.Nat.{ℕ, _+_, _*_, _/_, _%_, _^_, _<_, _≤_};
+ghost use mathlib.Core.Bool.{true, not, _||_};
 ghost use mathlib.Core.Path.{_≡_};
-ghost use Rattle.circuit.specs.Stored.{lent};
-ghost use Prim.Native.Nat.{_*_, _^_, _≤_};
-ghost use lib.ListN.{length};
-ghost use mathlib.Core.Bool.{not, _||_};
 ghost use lib.Dec.{eqb};
+ghost use lib.ListN.{length};
+ghost use Rattle.below.specs.Least.{least};
+ghost use Rattle.blocks.specs.Lane.{width};
+ghost use Rattle.circuit.specs.Circuit.{Circuit};
 ghost use Rattle.circuit.specs.Limits.{base};
-ghost use Rattle.records.specs.RegionBits.{regionLength, unusedBitSet};
+ghost use Rattle.net.specs.Net.{netLatches, netReadings};
+ghost use Rattle.net.specs.NetOf.{netOf};
+ghost use Rattle.records.specs.RegionBits.{regionLength, holdsState, unusedBitSet};
 ghost use Rattle.records.specs.ReplyBytes.{replyLength};
 ghost use Rattle.checker.specs.Answer.{ofReplies, checkedOutcome};
 ghost use Rattle.checker.specs.CircuitChecked.{repliesJudged};
-ghost use Rattle.checker.specs.Counted.{Counted};
-ghost use Rattle.checker.specs.Faults.{replyFault};
-ghost use Rattle.checker.specs.Rules.{brokenReply};
+ghost use Rattle.checker.specs.Faults.{replyFault, replyMove};
+ghost use Rattle.checker.specs.Sized.{Sized, Holding};
 
 // 13, 14 and 15 of a region and a reply table; where they start is answered where none applies.
 pub(crate) fn check_replies<'a>(
-    input: &'a [u16],
-    controllable: &'a [u8],
-    latch: &'a [u16],
-    next: &'a [u16],
-    output: u16,
-    gate: &'a [u16],
-    left: &'a [u16],
-    right: &'a [u16],
-    latches: usize,
-    readings: usize,
-    controls: usize,
+    net: &'a [u16],
     region: &'a [u8],
     table: &'a [u8],
     start: usize,
     replies: usize,
 ) -> Checked
-    requires { ⌜ Counted (lent 0 (now input) (now controllable) (now latch) (now next) output (now gate) (now left) (now right)) latches readings controls ⌝ }
-    ensures { λ r. ⌜ checkedOutcome r ≡ repliesJudged (lent 0 (now (input .entry)) (now (controllable .entry)) (now (latch .entry)) (now (next .entry)) output (now (gate .entry)) (now (left .entry)) (now (right .entry))) (now (region .entry)) (now (table .entry)) (ofReplies start replies latches readings) ⌝ }
+    requires { ⌜ Sized (now net) ⌝ }
+    ensures { λ r. ⌜ ((c : Circuit) → now (net .entry) ≡ netOf c → checkedOutcome r ≡ repliesJudged c (now (region .entry)) (now (table .entry)) (ofReplies start replies (netLatches (now (net .entry))) (netReadings (now (net .entry))))) ⌝ }
 {
+    let latches = latches_of(net);
+    let readings = readings_of(net);
     if badly_sized(region, table, latches, readings) {
         return Checked::Refused(Refusal {
             number: crate::BAD_TABLE,
@@ -56,21 +56,7 @@ pub(crate) fn check_replies<'a>(
             place: 0,
         });
     }
-    let place = broken_reply(
-        input,
-        controllable,
-        latch,
-        next,
-        output,
-        gate,
-        left,
-        right,
-        latches,
-        readings,
-        controls,
-        region,
-        table,
-    );
+    let place = broken_reply(net, region, table);
     if place < power(latches + readings) {
         return Checked::Refused(Refusal {
             number: crate::BROKEN_STEP,
@@ -117,46 +103,20 @@ fn unused_bit_set(region: &[u8], latches: usize) -> bool
     false
 }
 
-// The lowest s × 2^U + reading at which a reply breaks the step rule, or 2^(L+U) where none does.
-fn broken_reply<'a>(
-    input: &'a [u16],
-    controllable: &'a [u8],
-    latch: &'a [u16],
-    next: &'a [u16],
-    output: u16,
-    gate: &'a [u16],
-    left: &'a [u16],
-    right: &'a [u16],
-    latches: usize,
-    readings: usize,
-    controls: usize,
-    region: &'a [u8],
-    table: &'a [u8],
-) -> usize
-    requires { ⌜ Counted (lent 0 (now input) (now controllable) (now latch) (now next) output (now gate) (now left) (now right)) latches readings controls ⌝ }
-    ensures { λ r. ⌜ r ≡ brokenReply (lent 0 (now (input .entry)) (now (controllable .entry)) (now (latch .entry)) (now (next .entry)) output (now (gate .entry)) (now (left .entry)) (now (right .entry))) (now (region .entry)) (now (table .entry)) ⌝ }
+// The lowest s × 2^U + reading at which a reply breaks the step rule, or 2^(L+U) where none does. A block stays evaluated until a place needs
+// another one: with few controls it has the moves of several readings.
+fn broken_reply<'a>(net: &'a [u16], region: &'a [u8], table: &'a [u8]) -> usize
+    requires { ⌜ Sized (now net) ⌝ }
+    ensures { λ r. ⌜ r ≡ least (replyFault (now (net .entry)) (now (region .entry)) (now (table .entry))) (2 ^ (netLatches (now (net .entry)) + netReadings (now (net .entry)))) ⌝ }
 {
-    let width = power(readings);
-    let n = power(latches + readings);
+    let n = power(latches_of(net) + readings_of(net));
+    let mut words = [0; LITERALS];
+    let mut block = 0;
+    blocks::evaluate(net, block, &mut words);
     let mut i = 0;
     while i < n {
-        if reply_broken(
-            input,
-            controllable,
-            latch,
-            next,
-            output,
-            gate,
-            left,
-            right,
-            latches,
-            readings,
-            controls,
-            region,
-            table,
-            (i / width) as u16,
-            (i % width) as u8,
-        ) {
+        block = look_at(net, region, table, i, block, &mut words);
+        if reply_broken(net, &words, region, table, i) {
             return i;
         }
         i += 1;
@@ -164,47 +124,76 @@ fn broken_reply<'a>(
     n
 }
 
-// Whether the reply to a reading at a state breaks the step rule.
-fn reply_broken<'a>(
-    input: &'a [u16],
-    controllable: &'a [u8],
-    latch: &'a [u16],
-    next: &'a [u16],
-    output: u16,
-    gate: &'a [u16],
-    left: &'a [u16],
-    right: &'a [u16],
-    latches: usize,
-    readings: usize,
-    controls: usize,
+// Evaluates the block of a place's move, if its state is in the region and another block is evaluated; answers the block that is evaluated.
+fn look_at<'a>(
+    net: &'a [u16],
     region: &'a [u8],
     table: &'a [u8],
-    state: u16,
-    reading: u8,
-) -> bool
-    requires { ⌜ Counted (lent 0 (now input) (now controllable) (now latch) (now next) output (now gate) (now left) (now right)) latches readings controls ⌝ }
-    ensures { λ r. ⌜ r ≡ replyFault (lent 0 (now (input .entry)) (now (controllable .entry)) (now (latch .entry)) (now (next .entry)) output (now (gate .entry)) (now (left .entry)) (now (right .entry))) (now (region .entry)) (now (table .entry)) state reading ⌝ }
+    place: usize,
+    last: usize,
+    words: &mut [u64; LITERALS],
+) -> usize
+    requires { ⌜ Sized (now net) ⌝ }
+    requires { ⌜ place < 2 ^ (netLatches (now net) + netReadings (now net)) ⌝ }
+    requires { ⌜ Holding (now net) last (now words) ⌝ }
+    ensures { λ r. ⌜ (Holding (now (net .entry)) r (now (words .exit)) × (holdsState (now (region .entry)) (netLatches (now (net .entry))) (place / 2 ^ netReadings (now (net .entry))) ≡ true → r ≡ replyMove (now (net .entry)) (now (table .entry)) place / width)) ⌝ }
 {
-    if !holds_state(region, latches, state as usize) {
+    if !holds_state(region, latches_of(net), place / power(readings_of(net))) {
+        return last;
+    }
+    let block = reply_move(net, table, place) / 64;
+    if block == last {
+        return last;
+    }
+    blocks::evaluate(net, block, words);
+    block
+}
+
+// The move of the stored reply at a place.
+fn reply_move<'a>(net: &'a [u16], table: &'a [u8], place: usize) -> usize
+    requires { ⌜ Sized (now net) ⌝ }
+    requires { ⌜ place < 2 ^ (netLatches (now net) + netReadings (now net)) ⌝ }
+    ensures { λ r. ⌜ r ≡ replyMove (now (net .entry)) (now (table .entry)) place ⌝ }
+{
+    let latches = latches_of(net);
+    let readings = readings_of(net);
+    let state = place / power(readings);
+    let reading = place % power(readings);
+    let reply = stored_reply(table, latches, readings, state, reading);
+    move_of(
+        latches,
+        readings,
+        controls_of(net),
+        state as u16,
+        Reading(reading as u8),
+        Control(reply),
+    )
+}
+
+// Whether the reply at a place breaks the step rule. Where its state is in the region, the block of its move is evaluated.
+fn reply_broken<'a>(
+    net: &'a [u16],
+    words: &'a [u64; LITERALS],
+    region: &'a [u8],
+    table: &'a [u8],
+    place: usize,
+) -> bool
+    requires { ⌜ Sized (now net) ⌝ }
+    requires { ⌜ place < 2 ^ (netLatches (now net) + netReadings (now net)) ⌝ }
+    requires { ⌜ (holdsState (now region) (netLatches (now net)) (place / 2 ^ netReadings (now net)) ≡ true → Holding (now net) (replyMove (now net) (now table) place / width) (now words)) ⌝ }
+    ensures { λ r. ⌜ r ≡ replyFault (now (net .entry)) (now (region .entry)) (now (table .entry)) place ⌝ }
+{
+    let latches = latches_of(net);
+    let readings = readings_of(net);
+    let controls = controls_of(net);
+    let state = place / power(readings);
+    if !holds_state(region, latches, state) {
         return false;
     }
-    let reply = stored_reply(table, latches, readings, state as usize, reading as usize);
+    let reply = stored_reply(table, latches, readings, state, place % power(readings));
     if power(controls) <= reply as usize {
         return true;
     }
-    !keeps_region(
-        input,
-        controllable,
-        latch,
-        next,
-        output,
-        gate,
-        left,
-        right,
-        region,
-        latches,
-        state,
-        Reading(reading),
-        Control(reply),
-    )
+    let lane = reply_move(net, table, place) % 64;
+    !lane_keeps_region(net, words, lane, region, latches)
 }

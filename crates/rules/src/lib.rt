@@ -1,104 +1,86 @@
-// The step rules of a certificate (01, "The certificate", what passes), over lent arrays: whether a control keeps the play in the stored
-// region, and whether none keeps it out of the states of stored rank 1 to a bound. Shared with no solver.
-mod lane;
-
-use circuit::Circuit;
-use lane::some_keeps;
+// The step rules of a certificate (01, "The certificate", what passes), over words that are evaluated already: whether a lane keeps the play in
+// the stored region, and whether some lane keeps it out of the states of stored rank 1 to a bound. Shared with no solver.
 use records::stored::holds_state;
-use step::Control;
-use step::Reading;
-ghost use Prim.Native.Nat.{_^_, min};
-ghost use mathlib.Core.Bool.{not};
+use records::stored::stored_rank;
+ghost use Prim.Native.Nat.{ℕ, _+_, _-_, min};
 ghost use mathlib.Core.Path.{_≡_};
 ghost use Rattle.below.specs.Least.{any};
-ghost use Rattle.circuit.specs.Limits.{base};
-ghost use Rattle.circuit.specs.Stored.{lent};
-ghost use Rattle.game.specs.CircuitGame.{circuitGame};
-ghost use Rattle.game.specs.Keeps.{keeps};
+ghost use Rattle.blocks.specs.Lane.{width, litsIn};
+ghost use Rattle.game.specs.NetGame.{keepsBy};
 ghost use Rattle.game.specs.Rank.{notRanked};
 ghost use Rattle.records.specs.AttackTable.{storedRank};
 ghost use Rattle.records.specs.RegionBits.{holdsState};
 
-// Whether a control, at a state and reading, gives error 0 and a next state in the stored region.
-pub fn keeps_region<'a>(
-    input: &'a [u16],
-    controllable: &'a [u8],
-    latch: &'a [u16],
-    next: &'a [u16],
-    output: u16,
-    gate: &'a [u16],
-    left: &'a [u16],
-    right: &'a [u16],
+// Whether the move in a lane gives error 0 and a next state in the stored region.
+pub fn lane_keeps_region<'a>(
+    net: &'a [u16],
+    words: &'a [u64],
+    j: usize,
     region: &'a [u8],
     latches: usize,
-    state: u16,
-    reading: Reading,
-    control: Control,
 ) -> bool
-    ensures { λ r. ⌜ r ≡ keeps (circuitGame (lent 0 (now (input .entry)) (now (controllable .entry)) (now (latch .entry)) (now (next .entry)) output (now (gate .entry)) (now (left .entry)) (now (right .entry)))) (holdsState (now (region .entry)) latches) state (reading .0) (control .0) ⌝ }
+    ensures { λ r. ⌜ r ≡ keepsBy (holdsState (now (region .entry)) latches) (now (net .entry)) (litsIn (now (words .entry)) j) ⌝ }
 {
-    let t = step::step_lent(
-        input,
-        controllable,
-        latch,
-        next,
-        output,
-        gate,
-        left,
-        right,
-        state,
-        reading,
-        control,
-    );
-    if t.error {
+    let error = blocks::error_in(net, words, j);
+    if error {
         false
     } else {
-        holds_state(region, latches, t.next as usize)
+        holds_state(region, latches, blocks::next_in(net, words, j) as usize)
     }
 }
 
-// Whether under a reading each control, of so many, gives error 1 or a next state of stored rank 1 to a bound: none keeps. A block of 64
-// at a time.
-pub fn defeats<'a>(
-    input: &'a [u16],
-    controllable: &'a [u8],
-    latch: &'a [u16],
-    next: &'a [u16],
-    output: u16,
-    gate: &'a [u16],
-    left: &'a [u16],
-    right: &'a [u16],
+// Whether some lane of a block, from one to an end, gives error 0 and a next state that isn't of stored rank 1 to a bound.
+pub fn some_keeps<'a>(
+    net: &'a [u16],
+    words: &'a [u64],
     table: &'a [u8],
     latches: usize,
-    controls: usize,
     bound: u16,
-    state: u16,
-    reading: Reading,
+    from: usize,
+    end: usize,
 ) -> bool
-    ensures { λ r. ⌜ r ≡ not (any (keeps (circuitGame (lent 0 (now (input .entry)) (now (controllable .entry)) (now (latch .entry)) (now (next .entry)) output (now (gate .entry)) (now (left .entry)) (now (right .entry)))) (notRanked (storedRank (now (table .entry)) latches) bound) state (reading .0)) (min controls (2 ^ base .controllable))) ⌝ }
+    ensures { λ r. ⌜ r ≡ any (λ i. keepsBy (notRanked (storedRank (now (table .entry)) latches) bound) (now (net .entry)) (litsIn (now (words .entry)) (from + i))) (min end width - from) ⌝ }
 {
-    let n = below::fewer(controls, Circuit::CONTROLS);
-    let mut block = 0;
-    while block * 64 < n {
-        let t = lanes::step_block(
-            input,
-            controllable,
-            latch,
-            next,
-            output,
-            gate,
-            left,
-            right,
-            state,
-            reading,
-            block,
-        );
-        let words = t.next;
-        let end = below::fewer(64, n - block * 64);
-        if some_keeps(t.error, &words, table, latches, bound, end) {
-            return false;
+    let last = below::fewer(end, 64);
+    let mut j = from;
+    while j < last {
+        if lane_keeps(net, words, table, latches, bound, j) {
+            return true;
         }
-        block += 1;
+        j += 1;
     }
-    true
+    false
+}
+
+fn lane_keeps<'a>(
+    net: &'a [u16],
+    words: &'a [u64],
+    table: &'a [u8],
+    latches: usize,
+    bound: u16,
+    j: usize,
+) -> bool
+    ensures { λ r. ⌜ r ≡ keepsBy (notRanked (storedRank (now (table .entry)) latches) bound) (now (net .entry)) (litsIn (now (words .entry)) j) ⌝ }
+{
+    if blocks::error_in(net, words, j) {
+        false
+    } else {
+        is_unranked(
+            table,
+            latches,
+            bound,
+            blocks::next_in(net, words, j) as usize,
+        )
+    }
+}
+
+// Whether a state isn't of stored rank 1 to a bound.
+fn is_unranked(table: &[u8], latches: usize, bound: u16, state: usize) -> bool
+    ensures { λ r. ⌜ r ≡ notRanked (storedRank (now (table .entry)) latches) bound state ⌝ }
+{
+    let rank = stored_rank(table, latches, state);
+    if rank < 1 {
+        return true;
+    }
+    bound < rank
 }

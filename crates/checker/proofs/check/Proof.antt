@@ -1,6 +1,6 @@
 -- `checker::check` meets its contract: reading, then the check for the circuit that was read. Assumes nothing.
 use borrow.Author.Needs.{needs}
-use Rattle.checker.proofs.laws.Front.{front-checked, front-refused}
+use Rattle.checker.proofs.laws.Front.{front-few, front-checked, front-refused}
 use Rattle.checker.proofs.check.Statement.{statement}
 use Rattle.checker.proofs.check.Tie as tie
 
@@ -14,7 +14,10 @@ enum-told : tie.Need-enum-told
 enum-told c = search needs
 
 check-circuit-requires : tie.Need-check-circuit-requires
-check-circuit-requires c κs = search needs
+check-circuit-requires c κs =
+    let a = c .before .before .before .before .before .args in
+    let r = c .before .before .read in
+    front-few (a .file .now) (a .certificate .now) (r .result) (r .ensures) (c .enum-told .given .1)
 
 returns : tie.Need-returns
 returns c =
@@ -26,7 +29,8 @@ returns-2 : tie.Need-returns-2
 returns-2 c =
     let a = c .before .before .before .before .before .before .args in
     let r = c .before .before .before .read in
-    front-checked (a .file .now) (a .certificate .now) (r .result) (r .ensures) (c .before .enum-told .given .1) (c .check-circuit .result) (c .check-circuit .ensures)
+    front-checked (a .file .now) (a .certificate .now) (r .result) (r .ensures) (c .before .enum-told .given .1) (c .check-circuit .result)
+    (c .check-circuit .ensures)
 
 pub check-spec : {M : Type 1} → statement M
 check-spec =

@@ -1,21 +1,52 @@
--- `checker::check_circuit` meets its contract: the check over the circuit's own lists, whatever its largest variable. Assumes nothing.
-use mathlib.Core.Path.{_∙_}
-use lib.ListN.{take}
+-- `checker::check_circuit` meets its contract: the net that is lent is the circuit's. Assumes nothing.
+use Prim.Native.Nat.{_≤_}
+use native.Mathlib.Omega.{arith}
+use mathlib.Core.Path.{_≡_, sym, ap, _∙_}
+use lib.ListN.{take, length, length-take}
 use Rattle.circuit.specs.Stored.{meant}
-use Rattle.checker.proofs.laws.Stages.{largest-not-solved}
+use Rattle.net.specs.NetOf.{netOf}
+use Rattle.net.proofs.laws.InOrder.{Room}
+use Rattle.net.proofs.laws.Lent.{meant-room, lent-net, lent-in-order}
+use Rattle.checker.proofs.laws.Counted.{few-sized}
 use borrow.Author.Needs.{needs}
 use Rattle.checker.proofs.check_circuit.Statement.{statement}
 use Rattle.checker.proofs.check_circuit.Tie as tie
 
-check-counted-requires : tie.Need-check-counted-requires
-check-counted-requires c κs = search needs
+room : (c : tie.After-make) → Room (meant (c .before .before .before .args .c))
+room c = meant-room (c .before .before .before .args .c) (search needs) (search needs)
+
+lent-is : (c : tie.After-make) → take (c .make .result .length) (c .make .result .numbers) ≡ netOf (meant (c .before .before .before .args .c))
+lent-is c = lent-net (meant (c .before .before .before .args .c)) (room c) (c .make .result) (c .make .ensures)
+
+as-long : (c : tie.After-make) → c .make .result .length ≡ length (take (c .make .result .length) (c .make .result .numbers))
+as-long c = c .make .ensures .length ∙ sym (ap length (lent-is c))
+
+few : (c : tie.After-make) → c .make .result .length ≤ length (c .make .result .numbers)
+few c = omega (arith, as-long c, length-take (c .make .result .length) (c .make .result .numbers))
+
+make-requires : tie.Need-make-requires
+make-requires c κs = search needs
+
+array-share-prefix-numbers : tie.Need-array-share-prefix-numbers
+array-share-prefix-numbers c = few (c .before)
+
+slice-aggregate-check-net : tie.Need-slice-aggregate-check-net
+slice-aggregate-check-net c = as-long (c .before .before)
+
+check-net-requires : tie.Need-check-net-requires
+check-net-requires c κs =
+    let m = c .before .before in
+    let v = m .before .before .before .args .c in
+    few-sized (meant v) (take (m .make .result .length) (m .make .result .numbers)) (lent-is m) (m .before .before .before .pre)
+    (lent-in-order (meant v) (room m) (m .make .result) (m .make .ensures))
 
 returns : tie.Need-returns
-unfolding meant
 returns c =
-    let a = c .before .before .before .before .before .before .before .before .before .before .before .before .before .before .before .before .before .before .args in
-    let v = a .t1 in
-    c .check-counted .ensures ∙ largest-not-solved (take (v .inputs) (v .input)) (v .controllable) (take (v .latches) (v .latch)) (v .next) (v .output) (take (v .gates) (v .gate)) (v .left) (v .right) 0 (v .largest) (a .file .now) (a .certificate .now)
+    let m = c .before .before .before in
+    let v = m .before .before .before .args .c in
+    c .check-net .ensures (meant v) (lent-is m)
 
 pub check-circuit-spec : {M : Type 1} → statement M
-check-circuit-spec = tie.close (tie.spec check-counted-requires returns)
+check-circuit-spec =
+    tie.close
+    (tie.spec make-requires array-share-prefix-numbers slice-aggregate-check-net check-net-requires returns)

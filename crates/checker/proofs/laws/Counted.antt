@@ -1,39 +1,56 @@
--- The counts of lent lists, and of lists of nothing. Assumes nothing.
-use Prim.Native.Nat.{ℕ, min}
+-- The counts of a circuit and of its net, within the limits. Assumes nothing.
+use Prim.Native.Nat.{ℕ, _≤_}
 use native.Mathlib.Omega.{arith}
-use mathlib.Core.Bool.{false, not, _||_}
-use mathlib.Core.List.{List, []}
-use mathlib.Core.Path.{_≡_, refl, sym, _∙_}
-use lib.Dec.{ltb}
-use lib.ListN.{length}
-use Rattle.below.specs.Table.{table}
-use Rattle.circuit.specs.Circuit.{Input, inputsThat, latchCount, uncontrollableCount, controllableCount}
+use mathlib.Core.Bool.{false}
+use mathlib.Core.List.{List}
+use mathlib.Core.Path.{_≡_, ap, _∙_}
+use Rattle.circuit.specs.Circuit.{Circuit, latchCount, uncontrollableCount, controllableCount, tooMany}
 use Rattle.circuit.specs.Limits.{base}
-use Rattle.circuit.specs.Stored.{lent, inputsOf, latchesOf}
-use Rattle.circuit.proofs.laws.Solvable.{few-are, lent-latches}
-use Rattle.checker.specs.Counted.{Counted}
+use Rattle.circuit.proofs.laws.Solvable.{few-are}
+use Rattle.net.specs.InOrder.{InOrder}
+use Rattle.net.specs.Net.{netLatches, netReadings, netControls}
+use Rattle.net.specs.NetOf.{netOf}
+use Rattle.checker.specs.Sized.{Sized}
 
-pub counted-nothing : (controllable next left right : List ℕ) → Counted (lent 0 [] controllable [] next 0 [] left right) 0 0 0
-unfolding lent inputsOf latchesOf inputsThat latchCount uncontrollableCount controllableCount table
-counted-nothing controllable next left right = record { latches = refl; readings = refl; controls = refl; fewLatches = omega arith; fewReadings = omega arith; fewControls = omega arith }
+-- numbers that are a circuit's L, U and C, within the limits
+pub record Counted (c : Circuit) (L U C : ℕ) : Type 0 where
+  pub latches : L ≡ latchCount c
+  pub readings : U ≡ uncontrollableCount c
+  pub controls : C ≡ controllableCount c
+  pub fewLatches : L ≤ base .latches
+  pub fewReadings : U ≤ base .uncontrollable
+  pub fewControls : C ≤ base .controllable
 
-module _ (input controllable latch next : List ℕ) (output : ℕ) (gate left right : List ℕ) where
-  pub lent-uncontrollable : (U : ℕ) → U ≡ inputsThat (λ (i : Input). not (i .controllable)) (inputsOf input controllable) → U ≡ uncontrollableCount (lent 0 input controllable latch next output gate left right)
-  unfolding lent uncontrollableCount
-  lent-uncontrollable U e = e
+module _ (c : Circuit) (net : List ℕ) (is : net ≡ netOf c) where
+  net-latches-are : netLatches net ≡ latchCount c
+  unfolding netLatches netOf
+  net-latches-are = ap netLatches is
 
-  pub lent-controllable : (C : ℕ) → C ≡ inputsThat (λ (i : Input). i .controllable) (inputsOf input controllable) → C ≡ controllableCount (lent 0 input controllable latch next output gate left right)
-  unfolding lent controllableCount
-  lent-controllable C e = e
+  net-readings-are : netReadings net ≡ uncontrollableCount c
+  unfolding netReadings netOf
+  net-readings-are = ap netReadings is
 
-  pub counted-lent : (L U C : ℕ) → L ≡ min (length latch) (base .latches) → U ≡ inputsThat (λ (i : Input). not (i .controllable)) (inputsOf input controllable) → C ≡ inputsThat (λ (i : Input). i .controllable) (inputsOf input controllable) → (ltb (base .uncontrollable) U || ltb (base .controllable) C) ≡ false → Counted (lent 0 input controllable latch next output gate left right) L U C
-  counted-lent L U C e f g few =
-      let (one, two) = few-are U C few in
+  net-controls-are : netControls net ≡ controllableCount c
+  unfolding netControls netOf
+  net-controls-are = ap netControls is
+
+  pub counted-of : Sized net → (L U : ℕ) → L ≡ netLatches net → U ≡ netReadings net → Counted c L U (netControls net)
+  counted-of sized L U e f =
       record {
-        latches = e ∙ sym (lent-latches 0 input controllable latch next output gate left right);
-        readings = lent-uncontrollable U f;
-        controls = lent-controllable C g;
-        fewLatches = omega arith;
-        fewReadings = one;
-        fewControls = two;
+        latches = e ∙ net-latches-are;
+        readings = f ∙ net-readings-are;
+        controls = net-controls-are;
+        fewLatches = omega (arith, sized .order .states);
+        fewReadings = omega (arith, sized .fewReadings);
+        fewControls = sized .fewControls;
+      }
+
+  pub few-sized : tooMany base c ≡ false → InOrder net → Sized net
+  unfolding tooMany
+  few-sized few order =
+      let (one, two) = few-are (uncontrollableCount c) (controllableCount c) few in
+      record {
+        order = order;
+        fewReadings = omega (arith, net-readings-are, one);
+        fewControls = omega (arith, net-controls-are, two);
       }

@@ -1,88 +1,130 @@
--- What the code's tests say of a broken step rule at one place, and the searches for the lowest place, by the counts. Assumes nothing.
+-- What the code's tests say of a broken step rule at one place of a net's game, and the searches for the lowest place. Assumes nothing.
 use Prim.Native.Nat.{ℕ, _+_, _*_, _-_, _/_, _%_, _^_, _<_, _≤_}
 use native.Mathlib.Omega.{arith}
 use mathlib.Core.Bool.{Bool, true, false, not, _&&_}
 use mathlib.Core.List.{List}
-use mathlib.Core.Path.{_≡_, sym, ap, _∙_}
+use mathlib.Core.Path.{_≡_, refl, sym, ap, _∙_}
 use borrow.Author.Tests.{lt-ltb, le-ltb}
 use lib.Dec.{ltb}
 use lib.Pow.{pow-add}
 use Rattle.below.specs.Least.{least}
-use Rattle.circuit.specs.Circuit.{Circuit}
+use Rattle.blocks.specs.Lane.{width, moveIn, litsIn}
+use Rattle.circuit.specs.Circuit.{Circuit, latchCount, uncontrollableCount}
 use Rattle.game.specs.Attack.{attackBroken}
 use Rattle.game.specs.CircuitGame.{circuitGame}
-use Rattle.game.specs.Keeps.{keeps}
-use Rattle.game.specs.Rank.{defeats}
+use Rattle.game.specs.Game.{Game}
+use Rattle.game.specs.Keeps.{keeps, answered}
+use Rattle.game.specs.NetGame.{netGame, netMove, keepsBy}
+use Rattle.game.specs.Rank.{notRanked, defeats}
 use Rattle.game.specs.Reply.{replyBroken}
+use Rattle.game.proofs.laws.NetGame.{net-game, block-keeps}
+use Rattle.net.specs.Net.{netLatches, netReadings, netControls}
+use Rattle.net.specs.NetOf.{netOf}
 use Rattle.records.specs.AttackTable.{storedRank, storedAttack}
 use Rattle.records.specs.RegionBits.{holdsState}
 use Rattle.records.specs.ReplyBytes.{storedReply}
-use Rattle.checker.specs.Counted.{Counted}
-use Rattle.checker.specs.Faults.{replyFault, attackFault}
+use Rattle.checker.specs.Faults.{stateAt, readingAt, replyIn, replyMove, replyFault, attackFault}
 use Rattle.checker.specs.Rules.{brokenReply, brokenAttack}
+use Rattle.checker.specs.Sized.{Sized, Holding}
 
-module _ (c : Circuit) (L U C : ℕ) (counted : Counted c L U C) (region table : List ℕ) where
-  -- a reply at one place
-  module _ (s r : ℕ) where
-    fault-is : (holdsState region L s && not (ltb (storedReply table L U s r) (2 ^ C) && keeps (circuitGame c) (holdsState region L) s r (storedReply table L U s r))) ≡ replyFault c region table s r
-    unfolding replyFault replyBroken circuitGame
-    fault-is =
-        λ i.
-        holdsState region (counted .latches i) s
-        && not (ltb (storedReply table (counted .latches i) (counted .readings i) s r) (2 ^ (counted .controls i))
-        && keeps (circuitGame c) (holdsState region (counted .latches i)) s r (storedReply table (counted .latches i) (counted .readings i) s r))
+module _ (net region table : List ℕ) (i : ℕ) where
+  -- whether the stored reply keeps in the stored region
+  abbrev kept : (reply : ℕ) → Bool
+  kept reply = keeps (netGame net) (holdsState region (netLatches net)) (stateAt net i) (readingAt net i) reply
 
-    pub outside-no-fault : holdsState region L s ≡ false → false ≡ replyFault c region table s r
-    outside-no-fault e = sym (ap (λ (b : Bool). b && not (ltb (storedReply table L U s r) (2 ^ C) && keeps (circuitGame c) (holdsState region L) s r (storedReply table L U s r))) e) ∙ fault-is
+  pub outside-no-fault : holdsState region (netLatches net) (stateAt net i) ≡ false → false ≡ replyFault net region table i
+  unfolding replyFault replyBroken
+  outside-no-fault e = sym (ap (λ (b : Bool). b && not (ltb (replyIn net table i) (netGame net .controls) && kept (replyIn net table i))) e)
 
-    module _ (reply : ℕ) (inside : holdsState region L s ≡ true) (is : reply ≡ storedReply table L U s r) where
-      inside-is : not (ltb reply (2 ^ C) && keeps (circuitGame c) (holdsState region L) s r reply) ≡ replyFault c region table s r
-      inside-is =
-          ap (λ (n : ℕ). not (ltb n (2 ^ C) && keeps (circuitGame c) (holdsState region L) s r n)) is
-          ∙ sym (ap (λ (b : Bool). b && not (ltb (storedReply table L U s r) (2 ^ C) && keeps (circuitGame c) (holdsState region L) s r (storedReply table L U s r))) inside)
-          ∙ fault-is
+  module _ (reply : ℕ) (inside : holdsState region (netLatches net) (stateAt net i) ≡ true) (is : reply ≡ replyIn net table i) where
+    inside-is : not (ltb reply (2 ^ netControls net) && kept reply) ≡ replyFault net region table i
+    unfolding replyFault replyBroken netGame
+    inside-is =
+        ap (λ (k : ℕ). not (ltb k (2 ^ netControls net) && kept k)) is
+        ∙ sym (ap (λ (b : Bool). b && not (ltb (replyIn net table i) (2 ^ netControls net) && kept (replyIn net table i))) inside)
 
-      pub no-control-fault : 2 ^ C ≤ reply → true ≡ replyFault c region table s r
-      no-control-fault h = sym (ap (λ (b : Bool). not (b && keeps (circuitGame c) (holdsState region L) s r reply)) (le-ltb reply (2 ^ C) h)) ∙ inside-is
+    pub no-control-fault : 2 ^ netControls net ≤ reply → true ≡ replyFault net region table i
+    no-control-fault h = sym (ap (λ (b : Bool). not (b && kept reply)) (le-ltb reply (2 ^ netControls net) h)) ∙ inside-is
 
-      pub control-fault : (b : Bool) → reply < 2 ^ C → b ≡ keeps (circuitGame c) (holdsState region L) s r reply → not b ≡ replyFault c region table s r
-      control-fault b h e = ap not e ∙ sym (ap (λ (d : Bool). not (d && keeps (circuitGame c) (holdsState region L) s r reply)) (lt-ltb reply (2 ^ C) h)) ∙ inside-is
+    control-fault : (b : Bool) → reply < 2 ^ netControls net → b ≡ kept reply → not b ≡ replyFault net region table i
+    control-fault b h e =
+        ap not e ∙ sym (ap (λ (d : Bool). not (d && kept reply)) (lt-ltb reply (2 ^ netControls net) h)) ∙ inside-is
 
-  -- the search over the flat index
-  pub broken-reply-is : (width n : ℕ) → width ≡ 2 ^ U → n ≡ 2 ^ (L + U) → least (λ i. replyFault c region table (i / width) (i % width)) n ≡ brokenReply c region table
-  unfolding brokenReply replyFault circuitGame
-  broken-reply-is width n e f =
-      (λ x. least (λ i. replyFault c region table (i / e x) (i % e x)) ((f ∙ pow-add 2 L U) x))
-      ∙ (λ x. least (λ i. replyFault c region table (i / 2 ^ (counted .readings x)) (i % 2 ^ (counted .readings x))) (2 ^ (counted .latches x) * 2 ^ (counted .readings x)))
+    -- by the lane of the reply's move, in a block that is evaluated
+    pub lane-fault : Sized net → (words : List ℕ) (move j : ℕ) (b : Bool) → Holding net (move / width) words → move ≡ replyMove net table i → j ≡ move % width
+        → reply < 2 ^ netControls net → b ≡ keepsBy (holdsState region (netLatches net)) net (litsIn words j) → not b ≡ replyFault net region table i
+    unfolding moveIn replyMove
+    lane-fault sized words move j b holds m e h k =
+        let (before, lits) = holds j (omega arith) in
+        control-fault b h
+        (k
+        ∙ block-keeps net (sized .order) (holdsState region (netLatches net)) (stateAt net i) (readingAt net i) reply (move / width * width + j) before
+        (litsIn words j) (here ∙ m ∙ ap (netMove net (stateAt net i) (readingAt net i)) (sym is)) lits)
+      where
+        here : move / width * width + j ≡ move
+        here = omega arith
 
-module _ (c : Circuit) (L U C : ℕ) (counted : Counted c L U C) (table : List ℕ) where
-  -- an attack at one state
-  module _ (s rank : ℕ) (ranked : rank ≡ storedRank table L s) where
-    attack-is : (ltb 0 rank && not (ltb (storedAttack table L s) (2 ^ U) && defeats (circuitGame c) (storedRank table L) (rank - 1) s (storedAttack table L s))) ≡ attackFault c table s
-    unfolding attackFault attackBroken circuitGame
-    attack-is =
-        ap (λ (n : ℕ). ltb 0 n && not (ltb (storedAttack table L s) (2 ^ U) && defeats (circuitGame c) (storedRank table L) (n - 1) s (storedAttack table L s))) ranked
-        ∙ (λ i.
-        ltb 0 (storedRank table (counted .latches i) s)
-        && not (ltb (storedAttack table (counted .latches i) s) (2 ^ (counted .readings i))
-        && defeats (circuitGame c) (storedRank table (counted .latches i)) (storedRank table (counted .latches i) s - 1) s (storedAttack table (counted .latches i) s)))
+module _ (c : Circuit) (net : List ℕ) (is : net ≡ netOf c) where
+  module _ (region table : List ℕ) where
+    reply-search : (g : Game) (L U : ℕ) → ℕ
+    reply-search g L U =
+        least (λ i. replyBroken g (holdsState region L) (storedReply table L U) (i / 2 ^ U) (i % 2 ^ U)) (2 ^ (L + U))
 
-    pub unranked-no-fault : rank < 1 → false ≡ attackFault c table s
-    unranked-no-fault h = sym (ap (λ (b : Bool). b && not (ltb (storedAttack table L s) (2 ^ U) && defeats (circuitGame c) (storedRank table L) (rank - 1) s (storedAttack table L s))) (le-ltb 0 rank (omega arith))) ∙ attack-is
+    -- the search over the flat index
+    pub broken-reply-is : least (replyFault net region table) (2 ^ (netLatches net + netReadings net)) ≡ brokenReply c region table
+    unfolding brokenReply replyFault circuitGame netOf netLatches netReadings reply-search least
+    broken-reply-is =
+        ap (λ (m : List ℕ). least (replyFault m region table) (2 ^ (netLatches m + netReadings m))) is
+        ∙ ap (λ (g : Game). reply-search g (latchCount c) (uncontrollableCount c)) (net-game c)
+        ∙ ap
+        (least (λ i. replyBroken (circuitGame c) (holdsState region (latchCount c)) (storedReply table (latchCount c) (uncontrollableCount c))
+        (i / 2 ^ uncontrollableCount c) (i % 2 ^ uncontrollableCount c)))
+        (pow-add 2 (latchCount c) (uncontrollableCount c))
 
-    module _ (attack : ℕ) (high : 1 ≤ rank) (is : attack ≡ storedAttack table L s) where
-      ranked-is : not (ltb attack (2 ^ U) && defeats (circuitGame c) (storedRank table L) (rank - 1) s attack) ≡ attackFault c table s
-      ranked-is =
-          ap (λ (n : ℕ). not (ltb n (2 ^ U) && defeats (circuitGame c) (storedRank table L) (rank - 1) s n)) is
-          ∙ sym (ap (λ (b : Bool). b && not (ltb (storedAttack table L s) (2 ^ U) && defeats (circuitGame c) (storedRank table L) (rank - 1) s (storedAttack table L s))) (lt-ltb 0 rank high))
-          ∙ attack-is
+  module _ (table : List ℕ) where
+    pub broken-attack-is : least (attackFault net table) (2 ^ netLatches net) ≡ brokenAttack c table
+    unfolding brokenAttack attackFault circuitGame netOf netLatches
+    broken-attack-is =
+        ap (λ (m : List ℕ). least (attackFault m table) (2 ^ netLatches m)) is
+        ∙ ap (λ (g : Game). least (attackBroken g (storedRank table (latchCount c)) (storedAttack table (latchCount c))) (2 ^ latchCount c)) (net-game c)
 
-      pub no-reading-fault : 2 ^ U ≤ attack → true ≡ attackFault c table s
-      no-reading-fault h = sym (ap (λ (b : Bool). not (b && defeats (circuitGame c) (storedRank table L) (rank - 1) s attack)) (le-ltb attack (2 ^ U) h)) ∙ ranked-is
+module _ (net table : List ℕ) (s L rank : ℕ) (latches : L ≡ netLatches net) (ranked : rank ≡ storedRank table L s) where
+  abbrev defeated : (rank attack : ℕ) → Bool
+  defeated k r = defeats (netGame net) (storedRank table (netLatches net)) (k - 1) s r
 
-      pub reading-fault : (b : Bool) → attack < 2 ^ U → b ≡ defeats (circuitGame c) (storedRank table L) (rank - 1) s attack → not b ≡ attackFault c table s
-      reading-fault b h e = ap not e ∙ sym (ap (λ (d : Bool). not (d && defeats (circuitGame c) (storedRank table L) (rank - 1) s attack)) (lt-ltb attack (2 ^ U) h)) ∙ ranked-is
+  rank-is : rank ≡ storedRank table (netLatches net) s
+  rank-is = ranked ∙ ap (λ (n : ℕ). storedRank table n s) latches
 
-  pub broken-attack-is : (n : ℕ) → n ≡ 2 ^ L → least (attackFault c table) n ≡ brokenAttack c table
-  unfolding brokenAttack attackFault circuitGame
-  broken-attack-is n e = λ x. least (λ s. attackFault c table s) ((e ∙ ap (λ (m : ℕ). 2 ^ m) (counted .latches)) x)
+  attack-is : (ltb 0 rank && not (ltb (storedAttack table (netLatches net) s) (2 ^ netReadings net) && defeated rank (storedAttack table (netLatches net) s)))
+      ≡ attackFault net table s
+  unfolding attackFault attackBroken netGame
+  attack-is =
+      ap (λ (k : ℕ). ltb 0 k && not (ltb (storedAttack table (netLatches net) s) (2 ^ netReadings net) && defeated k (storedAttack table (netLatches net) s)))
+      rank-is
+
+  pub unranked-no-fault : rank < 1 → false ≡ attackFault net table s
+  unranked-no-fault h =
+      sym (ap (λ (b : Bool). b && not (ltb (storedAttack table (netLatches net) s) (2 ^ netReadings net) && defeated rank (storedAttack table (netLatches net) s)))
+      (le-ltb 0 rank (omega arith)))
+      ∙ attack-is
+
+  module _ (attack : ℕ) (high : 1 ≤ rank) (is : attack ≡ storedAttack table L s) where
+    ranked-is : not (ltb attack (2 ^ netReadings net) && defeated rank attack) ≡ attackFault net table s
+    ranked-is =
+        ap (λ (n : ℕ). not (ltb n (2 ^ netReadings net) && defeated rank n)) (is ∙ ap (λ (n : ℕ). storedAttack table n s) latches)
+        ∙ sym (ap (λ (b : Bool). b && not (ltb (storedAttack table (netLatches net) s) (2 ^ netReadings net) && defeated rank (storedAttack table (netLatches net) s)))
+        (lt-ltb 0 rank high))
+        ∙ attack-is
+
+    pub no-reading-fault : 2 ^ netReadings net ≤ attack → true ≡ attackFault net table s
+    no-reading-fault h = sym (ap (λ (b : Bool). not (b && defeated rank attack)) (le-ltb attack (2 ^ netReadings net) h)) ∙ ranked-is
+
+    pub reading-fault : (b : Bool) → attack < 2 ^ netReadings net
+        → b ≡ answered (netGame net) (notRanked (storedRank table (netLatches net)) (rank - 1)) s attack → b ≡ attackFault net table s
+    unfolding defeats
+    reading-fault b h e = e ∙ twice (answered (netGame net) (notRanked (storedRank table (netLatches net)) (rank - 1)) s attack)
+        ∙ sym (ap (λ (d : Bool). not (d && defeated rank attack)) (lt-ltb attack (2 ^ netReadings net) h)) ∙ ranked-is
+      where
+        twice : (d : Bool) → d ≡ not (not d)
+        twice true = refl
+        twice false = refl

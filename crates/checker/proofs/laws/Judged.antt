@@ -20,7 +20,7 @@ use Rattle.records.specs.RegionBits.{regionLength, holdsState, unusedBitSet}
 use Rattle.records.specs.ReplyBytes.{replyLength}
 use Rattle.checker.specs.Answer.{Starts}
 use Rattle.checker.specs.CircuitChecked.{repliesJudged, attacksJudged}
-use Rattle.checker.specs.Counted.{Counted}
+use Rattle.checker.proofs.laws.Counted.{Counted}
 use Rattle.checker.specs.Numbers.{badTable, badReset, brokenStep}
 use Rattle.checker.specs.Rules.{badReplyTables, badAttackTable, resetOutside, resetUnranked, brokenReply, brokenAttack}
 

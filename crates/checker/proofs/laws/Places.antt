@@ -1,10 +1,19 @@
 -- A flat place taken apart: its state and reading fit the numbers that a step takes. Assumes nothing.
-use Prim.Native.Nat.{ℕ, _+_, _/_, _%_, _^_, _<_, _≤_}
+use Prim.Native.Nat.{ℕ, _+_, _/_, _%_, _^_, _<_, _≤_, min}
 use native.Mathlib.Omega.{arith}
 use native.Mathlib.Nat.{mod-lt}
-use mathlib.Core.Path.{_≡_, sym, subst}
+use mathlib.Core.Bool.{Bool}
+use mathlib.Core.List.{List}
+use mathlib.Core.Path.{_≡_, refl, sym, ap, _∙_, subst}
 use lib.Pow.{pow-pos, pow-mono, shr-lt}
 use Rattle.circuit.specs.Limits.{base}
+use Rattle.game.specs.NetGame.{netMove}
+use Rattle.net.specs.Move.{moveOf}
+use Rattle.net.specs.Net.{netLatches, netReadings, netControls}
+use Rattle.records.specs.RegionBits.{holdsState}
+use Rattle.records.specs.ReplyBytes.{storedReply}
+use Rattle.checker.specs.Faults.{stateAt, replyIn, replyMove}
+use Rattle.checker.specs.Sized.{Sized}
 
 module _ (U width : ℕ) (is : width ≡ 2 ^ U) where
   pub width-positive : 0 < width
@@ -17,3 +26,39 @@ module _ (U width : ℕ) (is : width ≡ 2 ^ U) where
   state-fits L n i few all h =
       let state : i / width < 2 ^ L = subst (λ (w : ℕ). i / w < 2 ^ L) (sym is) (shr-lt L U (subst (λ (m : ℕ). i < m) all h)) in
       omega (arith, pow-mono {i = L} {j = base .latches} few)
+
+-- what the code finds at a place: its state, its stored reply, and the move of that
+module _ (net table : List ℕ) (place L U w : ℕ) (latches : L ≡ netLatches net) (readings : U ≡ netReadings net) (is : w ≡ 2 ^ U) where
+  wide : (v : ℕ) → v ≡ 2 ^ U → v ≡ 2 ^ netReadings net
+  wide v e = e ∙ ap (λ (n : ℕ). 2 ^ n) readings
+
+  pub held-is : (region : List ℕ) (h : Bool) → h ≡ holdsState region L (place / w) → h ≡ holdsState region (netLatches net) (stateAt net place)
+  held-is region h e = e ∙ λ x. holdsState region (latches x) (place / wide w is x)
+
+  module _ (v : ℕ) (also : v ≡ 2 ^ U) (reply : ℕ) (stored : reply ≡ storedReply table L U (place / w) (place % v)) where
+    pub reply-is : reply ≡ replyIn net table place
+    reply-is = stored ∙ λ x. storedReply table (latches x) (readings x) (place / wide w is x) (place % wide v also x)
+
+    pub move-is : Sized net → (C move : ℕ) → C ≡ netControls net
+        → move ≡ moveOf (min L (base .latches)) (min U (base .inputs)) (min C (base .inputs)) (place / w) (place % v) reply → move ≡ replyMove net table place
+    unfolding replyMove netMove
+    move-is sized C move controls e = e ∙ λ x. moveOf (l x) (u x) (k x) (place / wide w is x) (place % wide v also x) (reply-is x)
+      where
+        l : min L (base .latches) ≡ netLatches net
+        l = omega (arith, sized .order .states)
+
+        u : min U (base .inputs) ≡ netReadings net
+        u = omega (arith, sized .fewReadings)
+
+        k : min C (base .inputs) ≡ netControls net
+        k = omega (arith, sized .fewControls)
+
+-- the state and the reading of a place fit the numbers that a move takes
+module _ (net : List ℕ) (sized : Sized net) (place U w : ℕ) (readings : U ≡ netReadings net) (is : w ≡ 2 ^ U) where
+  pub place-state-fits : place < 2 ^ (netLatches net + netReadings net) → place / w < 2 ^ 16
+  place-state-fits h =
+      state-fits (netReadings net) w (is ∙ ap (λ (n : ℕ). 2 ^ n) readings) (netLatches net) (2 ^ (netLatches net + netReadings net)) place
+      (sized .order .states) refl h
+
+  pub place-reading-fits : place % w < 2 ^ 8
+  place-reading-fits = reading-fits U w is (omega (arith, sized .fewReadings)) place

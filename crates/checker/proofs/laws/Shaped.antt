@@ -17,7 +17,7 @@ use Rattle.records.proofs.laws.Shape.{length-part}
 use Rattle.checker.specs.Answer.{ofReplies, ofAttacks, startsOf}
 use Rattle.checker.specs.Check.{acceptedKinds}
 use Rattle.checker.specs.CircuitChecked.{circuitChecked, repliesJudged, attacksJudged}
-use Rattle.checker.specs.Counted.{Counted}
+use Rattle.checker.proofs.laws.Counted.{Counted}
 use Rattle.checker.specs.Numbers.{badShape, otherCircuit}
 use Rattle.checker.proofs.laws.Stages.{replies-judged, attacks-judged, misshapen-refused, other-refused, same-goes-on}
 

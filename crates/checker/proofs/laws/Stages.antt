@@ -1,22 +1,17 @@
 -- The check of a file and a certificate is the reading of the file and then the check for the circuit; and that is 11, 12 and then the
--- judging of the tables. The largest variable isn't looked at. Assumes nothing.
+-- judging of the tables. Assumes nothing.
 use Prim.Native.Nat.{ℕ, _*_}
-use mathlib.Core.Bool.{Bool, true, false, cond, not}
+use mathlib.Core.Bool.{Bool, true, false, not}
 use mathlib.Core.List.{List}
 use mathlib.Core.Option.{none, some}
-use mathlib.Core.Path.{_≡_, refl, sym, ap, _∙_}
+use mathlib.Core.Path.{_≡_, refl, ap, _∙_}
 use lib.Dec.{ltb}
 use Rattle.bits.specs.Bytes.{sameBytes}
-use Rattle.circuit.specs.Circuit.{Circuit, latchCount, uncontrollableCount, controllableCount, tooMany}
-use Rattle.circuit.specs.Limits.{base}
+use Rattle.circuit.specs.Circuit.{Circuit}
 use Rattle.circuit.specs.Outcome.{Outcome, taken, refused, _>>=_, _>>_, refuseIf}
-use Rattle.circuit.specs.Reset.{isReset}
-use Rattle.circuit.specs.Stored.{lent, emptyCircuit, solvable}
 use Rattle.file.specs.CircuitIn.{circuitIn}
 use Rattle.game.specs.CircuitGame.{circuitGame}
 use Rattle.records.specs.Tables.{Tables, replies, attacks, tablesOf, circuitPart}
-use Rattle.step.specs.Step.{step, errorOf, nextOf}
-use Rattle.step.specs.Value.{valuation}
 use Rattle.checker.specs.Answer.{Starts, startsOf, answerOf}
 use Rattle.checker.specs.Check.{acceptedKinds, orBadShape, tablesChecked, checkOf}
 use Rattle.checker.specs.CircuitChecked.{circuitChecked, repliesJudged, attacksJudged}
@@ -82,37 +77,3 @@ module _ (c : Circuit) (file certificate : List ℕ) where
     pub same-goes-on : sameBytes (circuitPart t) file ≡ true → circuitChecked c file certificate ≡ (tablesChecked c t >>= λ u. taken (startsOf c u))
     unfolding refuseIf
     same-goes-on f = shaped-goes-on ∙ rw f
-
--- the largest variable isn't looked at
-module _ (input controllable latch next : List ℕ) (output : ℕ) (gate left right : List ℕ) (m n : ℕ) where
-  pub largest-not-checked : (file certificate : List ℕ) → circuitChecked (lent m input controllable latch next output gate left right) file certificate ≡ circuitChecked (lent n input controllable latch next output gate left right) file certificate
-  unfolding circuitChecked repliesJudged attacksJudged startsOf badReplyTables badAttackTable resetOutside resetUnranked isReset brokenReply brokenAttack circuitGame latchCount uncontrollableCount controllableCount step errorOf nextOf valuation lent
-  largest-not-checked file certificate = by (orBadShape (tablesOf acceptedKinds certificate))
-    where
-      c : Circuit
-      c = lent m input controllable latch next output gate left right
-
-      d : Circuit
-      d = lent n input controllable latch next output gate left right
-
-      tables : (t : Tables) → (tablesChecked c t >>= λ u. taken (startsOf c u)) ≡ (tablesChecked d t >>= λ u. taken (startsOf d u))
-      tables (replies circuit region kind table) = replies-judged c circuit region kind table ∙ same ∙ sym (replies-judged d circuit region kind table)
-        where
-          same : repliesJudged c region table (startsOf c (replies circuit region kind table)) ≡ repliesJudged d region table (startsOf d (replies circuit region kind table))
-          same = refl
-      tables (attacks circuit table) = attacks-judged c circuit table ∙ same ∙ sym (attacks-judged d circuit table)
-        where
-          same : attacksJudged c table (startsOf c (attacks circuit table)) ≡ attacksJudged d table (startsOf d (attacks circuit table))
-          same = refl
-
-      by : (o : Outcome Tables) → (o >>= λ t. refuseIf (not (sameBytes (circuitPart t) file)) otherCircuit 0 >> (tablesChecked c t >>= λ u. taken (startsOf c u))) ≡ (o >>= λ t. refuseIf (not (sameBytes (circuitPart t) file)) otherCircuit 0 >> (tablesChecked d t >>= λ u. taken (startsOf d u)))
-      by (taken t) = ap (λ (o : Outcome Starts). refuseIf (not (sameBytes (circuitPart t) file)) otherCircuit 0 >> o) (tables t)
-      by (refused number place) = refl
-
-  pub largest-not-solved : (file certificate : List ℕ) → circuitChecked (solvable (lent m input controllable latch next output gate left right)) file certificate ≡ circuitChecked (solvable (lent n input controllable latch next output gate left right)) file certificate
-  unfolding solvable tooMany uncontrollableCount controllableCount lent
-  largest-not-solved file certificate = by (tooMany base (lent m input controllable latch next output gate left right))
-    where
-      by : (b : Bool) → circuitChecked (cond b emptyCircuit (lent m input controllable latch next output gate left right)) file certificate ≡ circuitChecked (cond b emptyCircuit (lent n input controllable latch next output gate left right)) file certificate
-      by true = refl
-      by false = largest-not-checked file certificate

@@ -1,40 +1,49 @@
 -- `checker::attacks::broken_attack` meets its contract: no attack of the states passed breaks the rule. Assumes nothing.
-use Prim.Native.Nat.{_-_}
+use Prim.Native.Nat.{ℕ, _-_, _^_, _≤_}
 use native.Mathlib.Omega.{arith}
-use mathlib.Core.Path.{sym, _∙_}
+use mathlib.Core.Path.{sym, ap, _∙_}
 use lib.Pow.{pow-mono}
+use Rattle.below.specs.Least.{least}
 use Rattle.below.proofs.laws.Passed.{Passed, passed-start, passed-next, passed-found, passed-end}
 use Rattle.circuit.specs.Limits.{base}
-use Rattle.circuit.specs.Stored.{lent}
 use Rattle.checker.specs.Faults.{attackFault}
-use Rattle.checker.proofs.laws.Faults.{broken-attack-is}
+use borrow.Author.Needs.{needs}
 use Rattle.checker.proofs.attacks.broken_attack.Statement.{statement}
 use Rattle.checker.proofs.attacks.broken_attack.Tie as tie
 
 abbrev Inv-loop : tie.InvT-loop
-Inv-loop input controllable latch next output gate left right latches readings controls table n s₀ s = Passed (attackFault (lent 0 input controllable latch next output gate left right) table) n s
+Inv-loop net table n s₀ s = Passed (attackFault net table) n s
 
 abbrev μ-loop : tie.MeasureT-loop
-μ-loop input controllable latch next output gate left right latches readings controls table n s₀ s = n - s
+μ-loop net table n s₀ s = n - s
+
+latches-of-requires : tie.Need-latches-of-requires Inv-loop μ-loop
+latches-of-requires c κs = search needs
 
 power-requires : tie.Need-power-requires Inv-loop μ-loop
-power-requires c κs = omega (arith, c .before .before .before .before .before .before .before .before .pre)
+power-requires c κs = omega (arith, c .latches-of .ensures, c .before .before .before .pre .order .states)
 
 loop-holds : tie.Need-loop-holds Inv-loop μ-loop
 loop-holds c = passed-start _ _
 
 cast-attack-broken : tie.Need-cast-attack-broken Inv-loop μ-loop
-cast-attack-broken c = omega (arith, c .before .before .power .ensures, pow-mono {i = c .before .before .before .before .before .before .before .before .before .before .before .args .latches} {j = base .latches} (c .before .before .before .before .before .before .before .before .before .before .before .pre .fewLatches))
+cast-attack-broken c =
+    let l = c .before .before .before .latches-of in
+    let few : l .result ≤ base .latches = omega (arith, l .ensures, c .before .before .before .before .before .before .pre .order .states) in
+    omega (arith, c .loop-test .taken, c .before .before .power .ensures, pow-mono {i = l .result} {j = base .latches} few)
 
 attack-broken-requires : tie.Need-attack-broken-requires Inv-loop μ-loop
-attack-broken-requires c κs = c .before .before .before .before .before .before .before .before .before .before .before .pre
+attack-broken-requires c κs = c .before .before .before .before .before .before .pre
 
 returns : tie.Need-returns Inv-loop μ-loop
 returns c =
-    let a = c .before .before .before .before .before .before .before .before .before .before .before .before .before .args in
+    let a = c .before .before .before .before .before .before .before .before .args in
     let n = c .before .before .before .before .power in
     let l = c .before .before .before .loop in
-    passed-found (attackFault (lent 0 (a .input .now) (a .controllable .now) (a .latch .now) (a .next .now) (a .output) (a .gate .now) (a .left .now) (a .right .now)) (a .table .now)) (n .result) (l .s) (l .inv) (c .before .before .loop-test .taken) (sym (c .before .attack-broken .ensures) ∙ c .if1 .taken) ∙ broken-attack-is (lent 0 (a .input .now) (a .controllable .now) (a .latch .now) (a .next .now) (a .output) (a .gate .now) (a .left .now) (a .right .now)) (a .latches) (a .readings) (a .controls) (c .before .before .before .before .before .before .before .before .before .before .before .before .before .pre) (a .table .now) (n .result) (n .ensures)
+    passed-found (attackFault (a .net .now) (a .table .now)) (n .result) (l .s) (l .inv) (c .before .before .loop-test .taken)
+    (sym (c .before .attack-broken .ensures) ∙ c .if1 .taken)
+    ∙ ap (least (attackFault (a .net .now) (a .table .now)))
+    (n .ensures ∙ ap (λ (m : ℕ). 2 ^ m) (c .before .before .before .before .before .latches-of .ensures))
 
 add-s : tie.Need-add-s Inv-loop μ-loop
 add-s c = omega (arith, c .before .before .loop-test .taken)
@@ -44,17 +53,19 @@ loop-less c = omega (arith, c .before .before .loop-test .taken)
 
 loop-again : tie.Need-loop-again Inv-loop μ-loop
 loop-again c =
-    let a = c .before .before .before .before .before .before .before .before .before .before .before .before .before .args in
+    let a = c .before .before .before .before .before .before .before .before .args in
     let n = c .before .before .before .before .power in
     let l = c .before .before .before .loop in
-    passed-next (attackFault (lent 0 (a .input .now) (a .controllable .now) (a .latch .now) (a .next .now) (a .output) (a .gate .now) (a .left .now) (a .right .now)) (a .table .now)) (n .result) (l .s) (l .inv) (c .before .before .loop-test .taken) (sym (c .before .attack-broken .ensures) ∙ c .if1 .left)
+    passed-next (attackFault (a .net .now) (a .table .now)) (n .result) (l .s) (l .inv) (c .before .before .loop-test .taken)
+    (sym (c .before .attack-broken .ensures) ∙ c .if1 .left)
 
 returns-2 : tie.Need-returns-2 Inv-loop μ-loop
 returns-2 c =
-    let a = c .before .before .before .before .before .before .before .before .before .before .before .args in
+    let a = c .before .before .before .before .before .before .args in
     let n = c .before .before .power in
     let l = c .before .loop in
-    passed-end (attackFault (lent 0 (a .input .now) (a .controllable .now) (a .latch .now) (a .next .now) (a .output) (a .gate .now) (a .left .now) (a .right .now)) (a .table .now)) (n .result) (l .s) (l .inv) (c .loop-test .left) ∙ broken-attack-is (lent 0 (a .input .now) (a .controllable .now) (a .latch .now) (a .next .now) (a .output) (a .gate .now) (a .left .now) (a .right .now)) (a .latches) (a .readings) (a .controls) (c .before .before .before .before .before .before .before .before .before .before .before .pre) (a .table .now) (n .result) (n .ensures)
+    passed-end (attackFault (a .net .now) (a .table .now)) (n .result) (l .s) (l .inv) (c .loop-test .left)
+    ∙ ap (least (attackFault (a .net .now) (a .table .now))) (n .ensures ∙ ap (λ (m : ℕ). 2 ^ m) (c .before .before .before .latches-of .ensures))
 
 pub broken-attack-spec : {M : Type 1} → statement M
 broken-attack-spec =
@@ -62,6 +73,7 @@ broken-attack-spec =
     (tie.spec
     Inv-loop
     μ-loop
+    latches-of-requires
     power-requires
     loop-holds
     cast-attack-broken

@@ -1,56 +1,140 @@
 -- `checker::replies::reply_broken` meets its contract: each test is one that the step rule makes. Assumes nothing.
+use Prim.Native.Nat.{ℕ, _/_, _%_, _^_, _<_, _≤_}
 use native.Mathlib.Omega.{arith}
-use mathlib.Core.Path.{sym, _∙_}
+use mathlib.Core.Path.{_≡_, refl, sym, ap, _∙_, subst}
 use borrow.Author.Tests.{not-true, not-false}
-use Rattle.circuit.specs.Stored.{lent}
-use Rattle.checker.proofs.laws.Faults.{outside-no-fault, no-control-fault, control-fault}
+use Rattle.blocks.specs.Lane.{width, litsIn}
+use Rattle.game.specs.NetGame.{keepsBy}
+use Rattle.net.specs.Net.{netControls}
+use Rattle.records.specs.RegionBits.{holdsState}
+use Rattle.checker.specs.Sized.{Holding}
+use Rattle.checker.proofs.laws.Faults.{outside-no-fault, no-control-fault, lane-fault}
+use Rattle.checker.proofs.laws.Places.{width-positive, held-is, reply-is}
 use borrow.Author.Needs.{needs}
 use Rattle.checker.proofs.replies.reply_broken.Statement.{statement}
 use Rattle.checker.proofs.replies.reply_broken.Tie as tie
+
+latches-of-requires : tie.Need-latches-of-requires
+latches-of-requires c κs = search needs
+
+readings-of-requires : tie.Need-readings-of-requires
+readings-of-requires c κs = search needs
+
+controls-of-requires : tie.Need-controls-of-requires
+controls-of-requires c κs = search needs
+
+power-requires : tie.Need-power-requires
+power-requires c κs = omega (arith, c .before .readings-of .ensures, c .before .before .before .before .before .before .pre .0 .fewReadings)
+
+div-state : tie.Need-div-state
+div-state c = width-positive (c .before .before .readings-of .result) (c .power .result) (c .power .ensures)
 
 holds-state-requires : tie.Need-holds-state-requires
 holds-state-requires c κs = search needs
 
 returns : tie.Need-returns
 returns c =
-    let a = c .before .before .before .before .before .before .before .before .before .before .before .args in
-    outside-no-fault (lent 0 (a .input .now) (a .controllable .now) (a .latch .now) (a .next .now) (a .output) (a .gate .now) (a .left .now) (a .right .now)) (a .latches) (a .readings) (a .controls) (c .before .before .before .before .before .before .before .before .before .before .before .pre) (a .region .now) (a .table .now) (a .state) (a .reading) (sym (c .before .holds-state .ensures) ∙ not-true _ (c .if1 .taken))
+    let a = c .before .before .before .before .before .before .before .before .before .args in
+    let l = c .before .before .before .before .before .latches-of in
+    let u = c .before .before .before .before .readings-of in
+    let w = c .before .before .power in
+    let h = c .before .holds-state in
+    outside-no-fault (a .net .now) (a .region .now) (a .table .now) (a .place)
+    (sym (held-is (a .net .now) (a .table .now) (a .place) (l .result) (u .result) (w .result) (l .ensures) (u .ensures) (w .ensures) (a .region .now)
+    (h .result) (h .ensures)) ∙ not-true _ (c .if1 .taken))
+
+power-requires-2 : tie.Need-power-requires-2
+power-requires-2 c κs = omega (
+  arith,
+  c .before .before .before .before .readings-of .ensures,
+  c .before .before .before .before .before .before .before .before .before .pre .0 .fewReadings,
+)
+
+rem-stored-reply : tie.Need-rem-stored-reply
+rem-stored-reply c = width-positive (c .before .before .before .before .before .readings-of .result) (c .power2 .result) (c .power2 .ensures)
 
 stored-reply-requires : tie.Need-stored-reply-requires
 stored-reply-requires c κs = search needs
 
-power-requires : tie.Need-power-requires
-power-requires c κs = search needs
+power-requires-3 : tie.Need-power-requires-3
+power-requires-3 c κs = omega (
+  arith,
+  c .before .before .before .before .before .controls-of .ensures,
+  c .before .before .before .before .before .before .before .before .before .before .before .pre .0 .fewControls,
+)
 
 cast-if2 : tie.Need-cast-if2
 cast-if2 c = search needs
 
 returns-2 : tie.Need-returns-2
 returns-2 c =
-    let a = c .before .before .before .before .before .before .before .before .before .before .before .before .before .before .args in
-    let reply = c .before .before .stored-reply in
-    let held = c .before .before .before .before .holds-state in
-    no-control-fault (lent 0 (a .input .now) (a .controllable .now) (a .latch .now) (a .next .now) (a .output) (a .gate .now) (a .left .now) (a .right .now)) (a .latches) (a .readings) (a .controls) (c .before .before .before .before .before .before .before .before .before .before .before .before .before .before .pre) (a .region .now) (a .table .now) (a .state) (a .reading) (reply .result) (sym (held .ensures) ∙ not-false _ (c .before .before .before .if1 .left)) (reply .ensures) (omega (arith, c .before .power .ensures))
+    let a = c .before .before .before .before .before .before .before .before .before .before .before .before .before .args in
+    let l = c .before .before .before .before .before .before .before .before .before .latches-of in
+    let u = c .before .before .before .before .before .before .before .before .readings-of in
+    let n = c .before .before .before .before .before .before .before .controls-of in
+    let w = c .before .before .before .before .before .before .power in
+    let h = c .before .before .before .before .before .holds-state in
+    let v = c .before .before .before .power2 in
+    let k = c .before .before .stored-reply in
+    let all : c .before .power3 .result ≡ 2 ^ netControls (a .net .now) = c .before .power3 .ensures ∙ ap (λ (m : ℕ). 2 ^ m) (n .ensures) in
+    no-control-fault (a .net .now) (a .region .now) (a .table .now) (a .place) (k .result)
+    (sym (held-is (a .net .now) (a .table .now) (a .place) (l .result) (u .result) (w .result) (l .ensures) (u .ensures) (w .ensures) (a .region .now)
+    (h .result) (h .ensures)) ∙ not-false _ (c .before .before .before .before .if1 .left))
+    (reply-is (a .net .now) (a .table .now) (a .place) (l .result) (u .result) (w .result) (l .ensures) (u .ensures) (w .ensures) (v .result)
+    (v .ensures) (k .result) (k .ensures))
+    (subst (λ (m : ℕ). m ≤ k .result) all (c .if2 .taken))
 
-keeps-region-requires : tie.Need-keeps-region-requires
-keeps-region-requires c κs = search needs
+reply-move-requires : tie.Need-reply-move-requires
+reply-move-requires c κs =
+    let s = c .before .before .before .before .before .before .before .before .before .before .before .before .before in
+    (s .pre .0, s .pre .1 .0)
+
+lane-keeps-region-requires : tie.Need-lane-keeps-region-requires
+lane-keeps-region-requires c κs = search needs
 
 returns-3 : tie.Need-returns-3
 returns-3 c =
-    let a = c .before .before .before .before .before .before .before .before .before .before .before .before .before .before .before .args in
-    let reply = c .before .before .before .stored-reply in
-    let held = c .before .before .before .before .before .holds-state in
-    control-fault (lent 0 (a .input .now) (a .controllable .now) (a .latch .now) (a .next .now) (a .output) (a .gate .now) (a .left .now) (a .right .now)) (a .latches) (a .readings) (a .controls) (c .before .before .before .before .before .before .before .before .before .before .before .before .before .before .before .pre) (a .region .now) (a .table .now) (a .state) (a .reading) (reply .result) (sym (held .ensures) ∙ not-false _ (c .before .before .before .before .if1 .left)) (reply .ensures) (c .keeps-region .result) (omega (arith, c .before .before .power .ensures)) (c .keeps-region .ensures)
+    let s = c .before .before .before .before .before .before .before .before .before .before .before .before .before .before .before .before in
+    let a = s .args in
+    let l = c .before .before .before .before .before .before .before .before .before .before .before .before .latches-of in
+    let u = c .before .before .before .before .before .before .before .before .before .before .before .readings-of in
+    let n = c .before .before .before .before .before .before .before .before .before .before .controls-of in
+    let w = c .before .before .before .before .before .before .before .before .before .power in
+    let h = c .before .before .before .before .before .before .before .before .holds-state in
+    let v = c .before .before .before .before .before .before .power2 in
+    let k = c .before .before .before .before .before .stored-reply in
+    let p = c .before .before .before .before .power3 in
+    let m = c .before .before .reply-move in
+    let all : p .result ≡ 2 ^ netControls (a .net .now) = p .ensures ∙ ap (λ (i : ℕ). 2 ^ i) (n .ensures) in
+    let inside =
+    sym (held-is (a .net .now) (a .table .now) (a .place) (l .result) (u .result) (w .result) (l .ensures) (u .ensures) (w .ensures) (a .region .now)
+    (h .result) (h .ensures)) ∙ not-false _ (c .before .before .before .before .before .before .before .if1 .left) in
+    lane-fault (a .net .now) (a .region .now) (a .table .now) (a .place) (k .result) inside
+    (reply-is (a .net .now) (a .table .now) (a .place) (l .result) (u .result) (w .result) (l .ensures) (u .ensures) (w .ensures) (v .result)
+    (v .ensures) (k .result) (k .ensures))
+    (s .pre .0) (a .words .now) (m .result) (m .result % width) (c .lane-keeps-region .result)
+    (subst (λ (i : ℕ). Holding (a .net .now) (i / width) (a .words .now)) (sym (m .ensures)) (s .pre .1 .1 inside)) (m .ensures) refl
+    (subst (λ (i : ℕ). k .result < i) all (c .before .before .before .if2 .left))
+    (c .lane-keeps-region .ensures ∙ ap (λ (i : ℕ). keepsBy (holdsState (a .region .now) i) (a .net .now) (litsIn (a .words .now) (m .result % width)))
+    (l .ensures))
 
 pub reply-broken-spec : {M : Type 1} → statement M
 reply-broken-spec =
     tie.close
     (tie.spec
+    latches-of-requires
+    readings-of-requires
+    controls-of-requires
+    power-requires
+    div-state
     holds-state-requires
     returns
+    power-requires-2
+    rem-stored-reply
     stored-reply-requires
-    power-requires
+    power-requires-3
     cast-if2
     returns-2
-    keeps-region-requires
+    reply-move-requires
+    lane-keeps-region-requires
     returns-3)

@@ -1,11 +1,11 @@
--- `rules::lane::is_unranked` meets its contract: rank 0, or one above the bound. Assumes nothing.
+-- `rules::is_unranked` meets its contract: rank 0, or one above the bound. Assumes nothing.
 use native.Mathlib.Omega.{arith}
 use mathlib.Core.Path.{sym}
 use Rattle.game.proofs.laws.Rank.{unranked-zero, above-unranked}
 use Rattle.records.specs.AttackTable.{storedRank}
 use borrow.Author.Needs.{needs}
-use Rattle.rules.proofs.lane.is_unranked.Statement.{statement}
-use Rattle.rules.proofs.lane.is_unranked.Tie as tie
+use Rattle.rules.proofs.is_unranked.Statement.{statement}
+use Rattle.rules.proofs.is_unranked.Tie as tie
 
 stored-rank-requires : tie.Need-stored-rank-requires
 stored-rank-requires c κs = search needs

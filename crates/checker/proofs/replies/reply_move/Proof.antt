@@ -1,0 +1,76 @@
+-- `checker::replies::reply_move` meets its contract: state and reading of the place, and the reply stored there. Assumes nothing.
+use native.Mathlib.Omega.{arith}
+use Rattle.checker.proofs.laws.Places.{width-positive, move-is, place-state-fits, place-reading-fits}
+use borrow.Author.Needs.{needs}
+use Rattle.checker.proofs.replies.reply_move.Statement.{statement}
+use Rattle.checker.proofs.replies.reply_move.Tie as tie
+
+latches-of-requires : tie.Need-latches-of-requires
+latches-of-requires c κs = search needs
+
+readings-of-requires : tie.Need-readings-of-requires
+readings-of-requires c κs = search needs
+
+power-requires : tie.Need-power-requires
+power-requires c κs = omega (arith, c .readings-of .ensures, c .before .before .before .before .pre .0 .fewReadings)
+
+div-state : tie.Need-div-state
+div-state c = width-positive (c .before .readings-of .result) (c .power .result) (c .power .ensures)
+
+power-requires-2 : tie.Need-power-requires-2
+power-requires-2 c κs = omega (arith, c .before .readings-of .ensures, c .before .before .before .before .before .pre .0 .fewReadings)
+
+rem-reading : tie.Need-rem-reading
+rem-reading c = width-positive (c .before .before .readings-of .result) (c .power2 .result) (c .power2 .ensures)
+
+stored-reply-requires : tie.Need-stored-reply-requires
+stored-reply-requires c κs = search needs
+
+controls-of-requires : tie.Need-controls-of-requires
+controls-of-requires c κs = search needs
+
+cast-move-of : tie.Need-cast-move-of
+cast-move-of c =
+    let s = c .before .before .before .before .before .before .before .before in
+    let u = c .before .before .before .before .readings-of in
+    let w = c .before .before .before .power in
+    record { fits = place-state-fits (s .args .net .now) (s .pre .0) (s .args .place) (u .result) (w .result) (u .ensures) (w .ensures) (s .pre .1) }
+
+cast-t11 : tie.Need-cast-t11
+cast-t11 c =
+    let s = c .before .before .before .before .before .before .before .before in
+    let u = c .before .before .before .before .readings-of in
+    let w = c .before .before .power2 in
+    record { fits = place-reading-fits (s .args .net .now) (s .pre .0) (s .args .place) (u .result) (w .result) (u .ensures) (w .ensures) }
+
+move-of-requires : tie.Need-move-of-requires
+move-of-requires c κs = search needs
+
+returns : tie.Need-returns
+returns c =
+    let s = c .before .before .before .before .before .before .before .before .before in
+    let l = c .before .before .before .before .before .before .latches-of in
+    let u = c .before .before .before .before .before .readings-of in
+    let w = c .before .before .before .before .power in
+    let v = c .before .before .before .power2 in
+    let k = c .before .before .stored-reply in
+    let n = c .before .controls-of in
+    move-is (s .args .net .now) (s .args .table .now) (s .args .place) (l .result) (u .result) (w .result) (l .ensures) (u .ensures) (w .ensures)
+    (v .result) (v .ensures) (k .result) (k .ensures) (s .pre .0) (n .result) (c .move-of .result) (n .ensures) (c .move-of .ensures)
+
+pub reply-move-spec : {M : Type 1} → statement M
+reply-move-spec =
+    tie.close
+    (tie.spec
+    latches-of-requires
+    readings-of-requires
+    power-requires
+    div-state
+    power-requires-2
+    rem-reading
+    stored-reply-requires
+    controls-of-requires
+    cast-move-of
+    cast-t11
+    move-of-requires
+    returns)
