@@ -58,8 +58,10 @@ returns c =
     let a = c .before .before .before .before .before .before .before .before .before .before .args in
     let w = c .before .before .before .before in
     λ d e. replies-of-other d (netLatches (a .net .now)) (netReadings (a .net .now)) (netControls (a .net .now))
-    (counts (w .before .before) d e) (a .file .now) (a .certificate .now) (w .circuit-end .given .0 .0) (w .circuit-end .given .0 .1 .0) (w .circuit-end .given .0 .1 .1 .0)
-    (w .circuit-end .given .0 .1 .1 .1 .0) (w .circuit-end .given .0 .1 .1 .1 .1 .0) (reply-lies w) (sym (c .before .same-bytes .ensures) ∙ not-true _ (c .if1 .taken))
+    (counts (w .before .before) d e) (a .file .now) (a .certificate .now) (w .circuit-end .given .0 .0) (w .circuit-end .given .0 .1 .0) (w .circuit-end
+    .given .0 .1 .1 .0)
+    (w .circuit-end .given .0 .1 .1 .1 .0) (w .circuit-end .given .0 .1 .1 .1 .1 .0) (reply-lies w) (sym (c .before .same-bytes .ensures) ∙ not-true _ (c
+    .if1 .taken))
 
 sub-check-replies : tie.Need-sub-check-replies
 sub-check-replies c = reply-lies (c .before .before .before .before) .regionPart .ordered
@@ -103,7 +105,8 @@ returns-2 c =
     let a = c .before .before .before .before .before .before .before .before .before .before .args in
     let w = c .before .before .before .before in
     λ d e. attacks-of-other d (netLatches (a .net .now)) (netReadings (a .net .now)) (netControls (a .net .now))
-    (counts (w .before .before) d e) (a .file .now) (a .certificate .now) (w .circuit-end2 .given .0 .0) (w .circuit-end2 .given .0 .1 .0) (w .circuit-end2 .given .0 .1 .1 .0)
+    (counts (w .before .before) d e) (a .file .now) (a .certificate .now) (w .circuit-end2 .given .0 .0) (w .circuit-end2 .given .0 .1 .0) (w .circuit-end2
+    .given .0 .1 .1 .0)
     (attack-lies w) (sym (c .before .same-bytes2 .ensures) ∙ not-true _ (c .if2 .taken))
 
 sub-check-attacks : tie.Need-sub-check-attacks
@@ -126,7 +129,8 @@ returns-3 c =
     let a = c .before .before .before .before .before .before .before .before .before .before .before .before .before .args in
     let w = c .before .before .before .before .before .before .before in
     λ d e. c .check-replies .ensures d e ∙ replies-of-same d (netLatches (a .net .now)) (netReadings (a .net .now)) (netControls (a .net .now))
-    (counts (w .before .before) d e) (a .file .now) (a .certificate .now) (w .circuit-end .given .0 .0) (w .circuit-end .given .0 .1 .0) (w .circuit-end .given .0 .1 .1 .0)
+    (counts (w .before .before) d e) (a .file .now) (a .certificate .now) (w .circuit-end .given .0 .0) (w .circuit-end .given .0 .1 .0) (w .circuit-end
+    .given .0 .1 .1 .0)
     (w .circuit-end .given .0 .1 .1 .1 .0) (w .circuit-end .given .0 .1 .1 .1 .1 .0) (reply-lies w)
     (sym (c .before .before .before .before .same-bytes .ensures) ∙ not-false _ (c .before .before .before .if1 .left))
 
@@ -135,7 +139,8 @@ returns-4 c =
     let a = c .before .before .before .before .before .before .before .before .before .before .before .before .args in
     let w = c .before .before .before .before .before .before in
     λ d e. c .check-attacks .ensures d e ∙ attacks-of-same d (netLatches (a .net .now)) (netReadings (a .net .now)) (netControls (a .net .now))
-    (counts (w .before .before) d e) (a .file .now) (a .certificate .now) (w .circuit-end2 .given .0 .0) (w .circuit-end2 .given .0 .1 .0) (w .circuit-end2 .given .0 .1 .1 .0)
+    (counts (w .before .before) d e) (a .file .now) (a .certificate .now) (w .circuit-end2 .given .0 .0) (w .circuit-end2 .given .0 .1 .0) (w .circuit-end2
+    .given .0 .1 .1 .0)
     (attack-lies w) (sym (c .before .before .before .same-bytes2 .ensures) ∙ not-false _ (c .before .before .if2 .left))
 
 returns-5 : tie.Need-returns-5

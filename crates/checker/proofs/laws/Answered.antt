@@ -28,7 +28,8 @@ turn net s r k h =
     let zero : 0 % 2 ^ netControls net ≡ 0 = mod-eq-of-lt (pow-pos (netControls net)) in
     omega arith
 
-module _ (net : List ℕ) (sized : Sized net) (set : ℕ → Bool) (s r first end : ℕ) (starts : first ≡ netMove net s r 0) (ends : end ≡ first + 2 ^ netControls net) where
+module _ (net : List ℕ) (sized : Sized net) (set : ℕ → Bool) (s r first end : ℕ) (starts : first ≡ netMove net s r 0) (ends : end ≡ first + 2 ^ netControls
+    net) where
   abbrev p : ℕ → Bool
   p = keeps (netGame net) set s r
 
@@ -98,7 +99,8 @@ first-is net sized L U C s r move latches readings controls e = e ∙ λ x. move
     k = omega (arith, sized .fewControls)
 
 -- a move has at most as many bits as latches and inputs
-pub move-few : (L U C s r k : ℕ) → L ≤ base .latches → U ≤ base .inputs → C ≤ base .inputs → moveOf L U C s r k < 2 ^ (base .latches + base .inputs + base .inputs)
+pub move-few : (L U C s r k : ℕ) → L ≤ base .latches → U ≤ base .inputs → C ≤ base .inputs → moveOf L U C s r k < 2 ^ (base .latches + base .inputs + base
+    .inputs)
 unfolding moveOf
 move-few L U C s r k l u c =
     omega (

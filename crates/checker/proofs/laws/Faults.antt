@@ -104,7 +104,8 @@ module _ (net table : List ℕ) (s L rank : ℕ) (latches : L ≡ netLatches net
 
   pub unranked-no-fault : rank < 1 → false ≡ attackFault net table s
   unranked-no-fault h =
-      sym (ap (λ (b : Bool). b && not (ltb (storedAttack table (netLatches net) s) (2 ^ netReadings net) && defeated rank (storedAttack table (netLatches net) s)))
+      sym (ap (λ (b : Bool). b && not (ltb (storedAttack table (netLatches net) s) (2 ^ netReadings net) && defeated rank (storedAttack table (netLatches
+      net) s)))
       (le-ltb 0 rank (omega arith)))
       ∙ attack-is
 
@@ -112,7 +113,8 @@ module _ (net table : List ℕ) (s L rank : ℕ) (latches : L ≡ netLatches net
     ranked-is : not (ltb attack (2 ^ netReadings net) && defeated rank attack) ≡ attackFault net table s
     ranked-is =
         ap (λ (n : ℕ). not (ltb n (2 ^ netReadings net) && defeated rank n)) (is ∙ ap (λ (n : ℕ). storedAttack table n s) latches)
-        ∙ sym (ap (λ (b : Bool). b && not (ltb (storedAttack table (netLatches net) s) (2 ^ netReadings net) && defeated rank (storedAttack table (netLatches net) s)))
+        ∙ sym (ap (λ (b : Bool). b && not (ltb (storedAttack table (netLatches net) s) (2 ^ netReadings net) && defeated rank (storedAttack table
+        (netLatches net) s)))
         (lt-ltb 0 rank high))
         ∙ attack-is
 

@@ -39,7 +39,8 @@ returns-2 c =
     let l = c .before .before .before .before .before .before .latches-of in
     let k = c .before .before .before .before .before .stored-rank in
     let r = c .before .before .before .stored-attack in
-    let all : c .before .power .result ≡ 2 ^ netReadings (a .net .now) = c .before .power .ensures ∙ ap (λ (m : ℕ). 2 ^ m) (c .before .before .readings-of .ensures) in
+    let all : c .before .power .result ≡ 2 ^ netReadings (a .net .now) = c .before .power .ensures ∙ ap (λ (m : ℕ). 2 ^ m) (c .before .before .readings-of
+    .ensures) in
     no-reading-fault (a .net .now) (a .table .now) (a .state) (l .result) (k .result) (l .ensures) (k .ensures) (r .result)
     (c .before .before .before .before .if1 .left) (r .ensures) (subst (λ (m : ℕ). m ≤ r .result) all (c .if2 .taken))
 

@@ -19,7 +19,8 @@ use Rattle.checker.proofs.attacks.check_attacks.Tie as tie
 -- the counts, for any circuit whose net this is
 counts : (w : tie.After-latches-of) (d : Circuit) → w .before .before .before .args .net .now ≡ netOf d
     → Counted d (w .latches-of .result) (netReadings (w .before .before .before .args .net .now)) (netControls (w .before .before .before .args .net .now))
-counts w d e = counted-of d (w .before .before .before .args .net .now) e (w .before .before .before .pre) (w .latches-of .result) _ (w .latches-of .ensures) refl
+counts w d e = counted-of d (w .before .before .before .args .net .now) e (w .before .before .before .pre) (w .latches-of .result) _ (w .latches-of
+    .ensures) refl
 
 latches-of-requires : tie.Need-latches-of-requires
 latches-of-requires c κs = search needs

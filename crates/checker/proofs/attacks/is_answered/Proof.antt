@@ -26,7 +26,9 @@ abbrev μ-loop : tie.MeasureT-loop
 μ-loop net table bound state reading latches controls first end words₀ m₀ words m = end - m
 
 -- what is known once the moves to try are: the first of them, their end, and that both fit
-first : (w : tie.After-power Inv-loop μ-loop) → w .before .move-of .result ≡ netMove (w .before .before .before .before .before .before .before .args .net .now) (w .before .before .before .before .before .before .before .args .state) (w .before .before .before .before .before .before .before .args .reading) 0
+first : (w : tie.After-power Inv-loop μ-loop) → w .before .move-of .result ≡ netMove (w .before .before .before .before .before .before .before .args .net
+    .now) (w .before .before .before .before .before .before .before .args .state) (w .before .before .before .before .before .before .before .args
+    .reading) 0
 first w =
     let s = w .before .before .before .before .before .before .before in
     let l = w .before .before .before .before .latches-of in
@@ -35,7 +37,8 @@ first w =
     first-is (s .args .net .now) (s .pre) (l .result) (u .result) (k .result) (s .args .state) (s .args .reading) (w .before .move-of .result) (l .ensures)
     (u .ensures) (k .ensures) (w .before .move-of .ensures)
 
-end-is : (w : tie.After-power Inv-loop μ-loop) → w .before .move-of .result + w .power .result ≡ w .before .move-of .result + 2 ^ netControls (w .before .before .before .before .before .before .before .args .net .now)
+end-is : (w : tie.After-power Inv-loop μ-loop) → w .before .move-of .result + w .power .result ≡ w .before .move-of .result + 2 ^ netControls (w .before
+    .before .before .before .before .before .before .args .net .now)
 end-is w = ap (λ (n : ℕ). w .before .move-of .result + n) (w .power .ensures ∙ ap (λ (n : ℕ). 2 ^ n) (w .before .before .before .controls-of .ensures))
 
 first-few : (w : tie.After-power Inv-loop μ-loop) → w .before .move-of .result < 2 ^ 36
@@ -44,7 +47,12 @@ first-few w =
     let l = w .before .before .before .before .latches-of .result in
     let u = w .before .before .readings-of .result in
     let k = w .before .before .before .controls-of .result in
-    omega (arith, w .before .move-of .ensures, move-few (min l (base .latches)) (min u (base .inputs)) (min k (base .inputs)) (s .state) (s .reading) 0 (omega arith) (omega arith) (omega arith))
+    omega (
+      arith,
+      w .before .move-of .ensures,
+      move-few (min l (base .latches)) (min u (base .inputs)) (min k (base .inputs)) (s .state) (s .reading) 0
+          (omega arith) (omega arith) (omega arith),
+    )
 
 all-few : (w : tie.After-power Inv-loop μ-loop) → w .power .result ≤ 2 ^ 8
 all-few w =
@@ -77,7 +85,13 @@ evaluate-requires : tie.Need-evaluate-requires Inv-loop μ-loop
 evaluate-requires c κs = search needs
 
 mul-block-keeps : tie.Need-mul-block-keeps Inv-loop μ-loop
-mul-block-keeps c = omega (arith, first-few (c .before .before .before .before .before), all-few (c .before .before .before .before .before), c .before .before .before .loop-test .taken)
+mul-block-keeps c = omega (
+  arith,
+  first-few (c .before .before .before .before .before),
+  all-few (c .before .before .before .before .before),
+  c .before
+      .before .before .loop-test .taken,
+)
 
 sub-block-keeps : tie.Need-sub-block-keeps Inv-loop μ-loop
 sub-block-keeps c = omega (arith, c .before .before .before .loop-test .taken)
@@ -93,19 +107,40 @@ returns c =
     let f = w .before .move-of .result in
     let sized = w .before .before .before .before .before .before .before .pre in
     tried-kept (a .net .now) sized (notRanked (storedRank (a .table .now) (netLatches (a .net .now))) (a .bound)) (a .state) (a .reading) f
-    (f + w .power .result) (first w) (end-is w) (l .m) (l .m / width) (l .m % width) (parted (l .m)) (mod-lt (l .m) (omega arith)) (c .before .before .before .evaluate .last .1 .1 .0)
-    (l .words) (c .before .before .before .evaluate .ensures) (l .inv sized (first w) (end-is w)) (c .before .before .before .before .before .loop-test .taken)
+    (f + w .power .result) (first w) (end-is w) (l .m) (l .m / width) (l .m % width) (parted (l .m)) (mod-lt (l .m) (omega arith)) (c .before .before
+    .before .evaluate .last .1 .1 .0)
+    (l .words) (c .before .before .before .evaluate .ensures) (l .inv sized (first w) (end-is w)) (c .before .before .before .before .before .loop-test
+    .taken)
     (sym (c .before .block-keeps .ensures ∙ ap (λ (n : ℕ). any (λ i. keepsBy (notRanked (storedRank (a .table .now) n) (a .bound)) (a .net .now)
-    (litsIn (c .before .before .before .evaluate .last .1 .1 .0) (l .m % width + i))) (min (f + w .power .result - l .m / width * width) width - l .m % width)) (w .before .before .before .before .latches-of .ensures)) ∙ c .if1 .taken)
+    (litsIn (c .before .before .before .evaluate .last .1 .1 .0) (l .m % width + i))) (min (f + w .power .result - l .m / width * width) width - l .m %
+    width)) (w .before .before .before .before .latches-of .ensures)) ∙ c .if1 .taken)
 
 add-m : tie.Need-add-m Inv-loop μ-loop
-add-m c = omega (arith, first-few (c .before .before .before .before .before .before .before), all-few (c .before .before .before .before .before .before .before), c .before .before .before .before .before .loop-test .taken)
+add-m c = omega (
+  arith,
+  first-few (c .before .before .before .before .before .before .before),
+  all-few (c .before .before .before .before .before .before
+      .before),
+  c .before .before .before .before .before .loop-test .taken,
+)
 
 mul-m : tie.Need-mul-m Inv-loop μ-loop
-mul-m c = omega (arith, first-few (c .before .before .before .before .before .before .before), all-few (c .before .before .before .before .before .before .before), c .before .before .before .before .before .loop-test .taken)
+mul-m c = omega (
+  arith,
+  first-few (c .before .before .before .before .before .before .before),
+  all-few (c .before .before .before .before .before .before
+      .before),
+  c .before .before .before .before .before .loop-test .taken,
+)
 
 loop-less : tie.Need-loop-less Inv-loop μ-loop
-loop-less c = omega (arith, c .before .before .before .before .before .loop-test .taken, parted (c .before .before .before .before .before .before .loop .m), mod-lt (c .before .before .before .before .before .before .loop .m) {m = width} (omega arith))
+loop-less c = omega (
+  arith,
+  c .before .before .before .before .before .loop-test .taken,
+  parted (c .before .before .before .before .before .before .loop
+      .m),
+  mod-lt (c .before .before .before .before .before .before .loop .m) {m = width} (omega arith),
+)
 
 loop-again : tie.Need-loop-again Inv-loop μ-loop
 loop-again c =
@@ -115,10 +150,12 @@ loop-again c =
     let f = w .before .move-of .result in
     let sized = w .before .before .before .before .before .before .before .pre in
     λ s starts ends. tried-next (a .net .now) s (notRanked (storedRank (a .table .now) (netLatches (a .net .now))) (a .bound)) (a .state) (a .reading) f
-    (f + w .power .result) starts ends (l .m) (l .m / width) (l .m % width) (parted (l .m)) (mod-lt (l .m) (omega arith)) (c .before .before .before .evaluate .last .1 .1 .0)
+    (f + w .power .result) starts ends (l .m) (l .m / width) (l .m % width) (parted (l .m)) (mod-lt (l .m) (omega arith)) (c .before .before .before
+    .evaluate .last .1 .1 .0)
     (l .words) (c .before .before .before .evaluate .ensures) (l .inv s starts ends) (c .before .before .before .before .before .loop-test .taken)
     (sym (c .before .block-keeps .ensures ∙ ap (λ (n : ℕ). any (λ i. keepsBy (notRanked (storedRank (a .table .now) n) (a .bound)) (a .net .now)
-    (litsIn (c .before .before .before .evaluate .last .1 .1 .0) (l .m % width + i))) (min (f + w .power .result - l .m / width * width) width - l .m % width)) (w .before .before .before .before .latches-of .ensures)) ∙ c .if1 .left)
+    (litsIn (c .before .before .before .evaluate .last .1 .1 .0) (l .m % width + i))) (min (f + w .power .result - l .m / width * width) width - l .m %
+    width)) (w .before .before .before .before .latches-of .ensures)) ∙ c .if1 .left)
 
 returns-2 : tie.Need-returns-2 Inv-loop μ-loop
 returns-2 c =

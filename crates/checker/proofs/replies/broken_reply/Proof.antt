@@ -19,7 +19,8 @@ abbrev μ-loop : tie.MeasureT-loop
 μ-loop net region table n words₀ block₀ i₀ words block i = n - i
 
 -- how many places there are
-all : (w : tie.After-power Inv-loop μ-loop) → w .power .result ≡ 2 ^ (netLatches (w .before .before .before .before .before .before .args .net .now) + netReadings (w .before .before .before .before .before .before .args .net .now))
+all : (w : tie.After-power Inv-loop μ-loop) → w .power .result ≡ 2 ^ (netLatches (w .before .before .before .before .before .before .args .net .now) +
+    netReadings (w .before .before .before .before .before .before .args .net .now))
 all w = w .power .ensures ∙ λ x. 2 ^ (w .before .before .latches-of .ensures x + w .before .readings-of .ensures x)
 
 latches-of-requires : tie.Need-latches-of-requires Inv-loop μ-loop
@@ -29,10 +30,23 @@ readings-of-requires : tie.Need-readings-of-requires Inv-loop μ-loop
 readings-of-requires c κs = search needs
 
 add-power : tie.Need-add-power Inv-loop μ-loop
-add-power c = omega (arith, c .readings-of .ensures, c .before .latches-of .ensures, c .before .before .before .before .before .pre .order .states, c .before .before .before .before .before .pre .fewReadings)
+add-power c = omega (
+  arith,
+  c .readings-of .ensures,
+  c .before .latches-of .ensures,
+  c .before .before .before .before .before .pre .order .states,
+  c
+      .before .before .before .before .before .pre .fewReadings,
+)
 
 power-requires : tie.Need-power-requires Inv-loop μ-loop
-power-requires c κs = omega (arith, c .readings-of .ensures, c .before .latches-of .ensures, c .before .before .before .before .before .pre .order .states, c .before .before .before .before .before .pre .fewReadings)
+power-requires c κs = omega (
+  arith,
+  c .readings-of .ensures,
+  c .before .latches-of .ensures,
+  c .before .before .before .before .before .pre .order .states,
+  c .before .before .before .before .before .pre .fewReadings,
+)
 
 evaluate-requires : tie.Need-evaluate-requires Inv-loop μ-loop
 evaluate-requires c κs = search needs
@@ -42,8 +56,14 @@ loop-holds c = (passed-start _ _, λ j h. (_, c .evaluate .ensures j h))
 
 look-at-requires : tie.Need-look-at-requires Inv-loop μ-loop
 look-at-requires c κs =
-    let w = c .before .before .before .before .before in
-    (w .before .before .before .before .before .before .pre, (subst (λ (m : ℕ). c .before .before .loop .i < m) (all w) (c .before .loop-test .taken), c .before .before .loop .inv .1))
+    let w = c .before .before .before .before .before in (
+      w .before .before .before .before .before .before .pre,
+      (
+        subst (λ (m : ℕ). c .before .before .loop .i < m) (all w) (c .before .loop-test .taken),
+        c
+            .before .before .loop .inv .1,
+      ),
+    )
 
 reply-broken-requires : tie.Need-reply-broken-requires Inv-loop μ-loop
 reply-broken-requires c κs =
@@ -62,7 +82,8 @@ returns c =
     let w = c .before .before .before .before .before .before .before .before .before in
     let a = w .before .before .before .before .before .before .args in
     let l = c .before .before .before .before .before .before .loop in
-    passed-found (replyFault (a .net .now) (a .region .now) (a .table .now)) (w .power .result) (l .i) (l .inv .0) (c .before .before .before .before .before .loop-test .taken)
+    passed-found (replyFault (a .net .now) (a .region .now) (a .table .now)) (w .power .result) (l .i) (l .inv .0) (c .before .before .before .before
+    .before .loop-test .taken)
     (sym (c .before .reply-broken .ensures) ∙ c .if1 .taken)
     ∙ ap (least (replyFault (a .net .now) (a .region .now) (a .table .now))) (all w)
 
@@ -77,7 +98,8 @@ loop-again c =
     let w = c .before .before .before .before .before .before .before .before .before in
     let a = w .before .before .before .before .before .before .args in
     let l = c .before .before .before .before .before .before .loop in (
-      passed-next (replyFault (a .net .now) (a .region .now) (a .table .now)) (w .power .result) (l .i) (l .inv .0) (c .before .before .before .before .before .loop-test .taken)
+      passed-next (replyFault (a .net .now) (a .region .now) (a .table .now)) (w .power .result) (l .i) (l .inv .0) (c .before .before .before .before
+          .before .loop-test .taken)
           (sym (c .before .reply-broken .ensures) ∙ c .if1 .left),
       c .before .before .before .look-at .ensures .0,
     )

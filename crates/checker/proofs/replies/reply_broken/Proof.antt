@@ -1,5 +1,5 @@
 -- `checker::replies::reply_broken` meets its contract: each test is one that the step rule makes. Assumes nothing.
-use Prim.Native.Nat.{ℕ, _/_, _%_, _^_, _<_, _≤_}
+use Prim.Native.Nat.{ℕ, _/_, _%_, _^_, _<_}
 use native.Mathlib.Omega.{arith}
 use mathlib.Core.Path.{_≡_, refl, sym, ap, _∙_, subst}
 use borrow.Author.Tests.{not-true, not-false}
@@ -82,7 +82,7 @@ returns-2 c =
     (h .result) (h .ensures)) ∙ not-false _ (c .before .before .before .before .if1 .left))
     (reply-is (a .net .now) (a .table .now) (a .place) (l .result) (u .result) (w .result) (l .ensures) (u .ensures) (w .ensures) (v .result)
     (v .ensures) (k .result) (k .ensures))
-    (subst (λ (m : ℕ). m ≤ k .result) all (c .if2 .taken))
+    (omega (arith, all, c .if2 .taken))
 
 reply-move-requires : tie.Need-reply-move-requires
 reply-move-requires c κs =
