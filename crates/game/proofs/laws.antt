@@ -1,6 +1,5 @@
 pub mod Alarms
 pub mod Keeps
-pub mod InLane
 pub mod Rounds
 pub mod Region
 pub mod Rank

@@ -1,6 +1,5 @@
 pub mod Game
 pub mod Keeps
-pub mod InLane
 pub mod Region
 pub mod Rank
 pub mod Reply

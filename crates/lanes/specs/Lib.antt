@@ -1,4 +1,0 @@
-pub mod Lane
-pub mod Block
-pub mod Plain
-pub mod Prepared
