@@ -57,7 +57,10 @@ count-mono p q (suc n) h = by (counted p n) (counted q n) (count-mono p q n (λ 
 
 pub count-grows : (p q : ℕ → Bool) (n j : ℕ) → ((i : ℕ) → i < n → p i ≡ true → q i ≡ true) → j < n → p j ≡ false → q j ≡ true → count p n < count q n
 count-grows p q zero j h l e f = absurd (not-suc-le-zero l)
-count-grows p q (suc n) j h l e f = elim (decLt j n) [ yes m ↦ below (counted p n) (counted q n) (count-grows p q n j (λ i k. h i (omega arith)) m e f) | no m ↦ here (omega arith) (counted p n) (counted q n) ]
+count-grows p q (suc n) j h l e f = elim (decLt j n) [
+  | yes m ↦ below (counted p n) (counted q n) (count-grows p q n j (λ i k. h i (omega arith)) m e f)
+  | no m ↦ here (omega arith) (counted p n) (counted q n)
+]
   where
     below : Counted p n → Counted q n → count p n < count q n → count p (suc n) < count q (suc n)
     below (passes a c) (passes b d) ih = omega arith

@@ -63,7 +63,10 @@ least-before p (suc n) i h = by (went p n) (least-before p n i)
 
 -- the one that passes while none before it does is the least
 pub least-is : (p : ℕ → Bool) (n i : ℕ) → i < n → p i ≡ true → ((j : ℕ) → j < i → p j ≡ false) → least p n ≡ i
-least-is p n i h t b = elim (decLt (least p n) i) [ yes a ↦ absurd (low a) | no a ↦ elim (decLt i (least p n)) [ yes c ↦ absurd (high c) | no c ↦ omega arith ] ]
+least-is p n i h t b = elim (decLt (least p n) i) [
+  | yes a ↦ absurd (low a)
+  | no a ↦ elim (decLt i (least p n)) [ yes c ↦ absurd (high c) | no c ↦ omega arith ]
+]
   where
     low : least p n < i → ⊥
     low a = true≢false (sym (least-holds p n (omega arith)) ∙ b (least p n) a)

@@ -58,10 +58,16 @@ module _ (p : ℕ → Bool) (from n : ℕ) where
   searched-start = record { within = omega arith; started = λ h. omega arith; none = λ i f h. absurd (omega arith) }
 
   pub searched-more : (k m : ℕ) → Searched k → k < n → k ≤ m → m ≤ n → ((i : ℕ) → k ≤ i → i < m → p i ≡ false) → Searched m
-  searched-more k m s h a b fail = record { within = b; started = λ l. omega (arith, s .started h); none = λ i f l. elim (decLt i k) [ yes c ↦ s .none i f c | no c ↦ fail i (omega arith) l ] }
+  searched-more k m s h a b fail = record {
+    within = b;
+    started = λ l. omega (arith, s .started h);
+    none =
+        λ i f l. elim (decLt i k) [ yes c ↦ s .none i f c | no c ↦ fail i (omega arith) l ];
+  }
 
   pub searched-found : (k i : ℕ) → Searched k → k ≤ i → i < n → p i ≡ true → ((j : ℕ) → k ≤ j → j < i → p j ≡ false) → i ≡ leastFrom p from n
-  searched-found k i s a h e fail = sym (from-found i (omega (arith, s .started (omega arith))) h e (λ j f l. elim (decLt j k) [ yes c ↦ s .none j f c | no c ↦ fail j (omega arith) l ]))
+  searched-found k i s a h e fail =
+      sym (from-found i (omega (arith, s .started (omega arith))) h e (λ j f l. elim (decLt j k) [ yes c ↦ s .none j f c | no c ↦ fail j (omega arith) l ]))
 
   -- one at a time
   pub searched-from : from ≤ n → Searched from

@@ -18,7 +18,11 @@ module _ {ℓ} {A : Type ℓ} where
   pub getD-table : (f : ℕ → A) (n i : ℕ) (d : A) → i < n → getD (table f n) i d ≡ f i
   unfolding table
   getD-table f zero i d h = absurd (not-suc-le-zero h)
-  getD-table f (suc n) i d h = elim (decLt i n) [ yes a ↦ List·getD-append (table f n) (f n ∷ []) d i (omega (arith, length-table f n)) ∙ getD-table f n i d a | no b ↦ last (omega arith) ]
+  getD-table f (suc n) i d h = elim (decLt i n) [
+    | yes a ↦ List·getD-append (table f n) (f n ∷ []) d i (omega (arith, length-table f n))
+        ∙ getD-table f n i d a
+    | no b ↦ last (omega arith)
+  ]
     where
       last : i ≡ n → getD (table f n ++ (f n ∷ [])) i d ≡ f i
       last e = rw e (getD-at (table f n) (f n) [] d n (length-table f n))
@@ -34,7 +38,8 @@ module _ {ℓ} {A : Type ℓ} where
 
   -- a list is the table of its elements
   pub table-getD : (l : List A) (d : A) → table (λ i. getD l i d) (length l) ≡ l
-  table-getD l d = ext-getD d (table (λ i. getD l i d) (length l)) l (length-table (λ i. getD l i d) (length l)) (λ i h. getD-table (λ j. getD l j d) (length l) i d (omega (arith, length-table (λ j. getD l j d) (length l))))
+  table-getD l d = ext-getD d (table (λ i. getD l i d) (length l)) l (length-table (λ i. getD l i d) (length l))
+      (λ i h. getD-table (λ j. getD l j d) (length l) i d (omega (arith, length-table (λ j. getD l j d) (length l))))
 
   -- what is left of a table at a place: what stands there, and what is left behind it
   pub drop-table : (f : ℕ → A) (n i : ℕ) → i < n → drop i (table f n) ≡ f i ∷ drop (suc i) (table f n)

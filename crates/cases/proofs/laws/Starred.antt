@@ -45,5 +45,14 @@ use Rattle.cases.specs.Starred.{lengthsOf, answerTo}
 use Rattle.cases.specs.Starred.{Row, starred}
 
 pub starred-hold : map (λ (row : Row). answerTo (row .asked)) starred ≡ map (λ (row : Row). row .expected) starred
-unfolding flatMap bit odd oneIf byteBit sameBytes startsWith digits sum among member least any every table inputsThat latchCount uncontrollableCount controllableCount variable inverted constant mayDefine tooLarge refuseIf isReset headerNumbers headerOf withinLimits before lines prepend fields separators numbersOf isDigit run isNumeral decimalValue number latchOf gateOf orBadHeader linesRead fileRead circuitRead firstOf badOwn isDefined unknown inputRule latchRule outputRule gateRule judged withRow section onward used positions isNameByte isName names symbolAt symbolOf isComment orBadSymbol symbolLines isControllableName isControllable circuitOf tooMany errorOf nextOf step literalValue put withInputs withLatches withGates valuation attack attackBroken circuitGame isRealizable keeps answered safe replyLine attackLine listingOf notRanked defeats defeated round ranksAfter rank inRegion reply replyBroken realizable attackLength storedRank storedAttack attackBytes recordOf contentsLength split regionLength holdsState unusedBitSet unusedBit bitByte bitBytes regionBytes replyLength storedReply replyBytes thirdOf secondOf firstRecord tablesOf circuitPart circuitIn orBadShape tablesChecked checkOf badReplyTables badAttackTable resetOutside resetUnranked brokenReply brokenAttack replyCertificate attackCertificate certificateOf certified decimalWithin decimal numberLine verdictWord listingText refusalText pageFor pageOf lengthsOf answerTo
+unfolding flatMap bit odd oneIf byteBit sameBytes startsWith digits sum among member least any every table inputsThat latchCount uncontrollableCount
+    controllableCount variable inverted constant mayDefine tooLarge refuseIf isReset headerNumbers headerOf withinLimits before lines prepend fields
+    separators numbersOf isDigit run isNumeral decimalValue number latchOf gateOf orBadHeader linesRead fileRead circuitRead firstOf badOwn isDefined
+    unknown inputRule latchRule outputRule gateRule judged withRow section onward used positions isNameByte isName names symbolAt symbolOf isComment
+    orBadSymbol symbolLines isControllableName isControllable circuitOf tooMany errorOf nextOf step literalValue put withInputs withLatches withGates
+    valuation attack attackBroken circuitGame isRealizable keeps answered safe replyLine attackLine listingOf notRanked defeats defeated round
+    ranksAfter rank inRegion reply replyBroken realizable attackLength storedRank storedAttack attackBytes recordOf contentsLength split regionLength
+    holdsState unusedBitSet unusedBit bitByte bitBytes regionBytes replyLength storedReply replyBytes thirdOf secondOf firstRecord tablesOf circuitPart
+    circuitIn orBadShape tablesChecked checkOf badReplyTables badAttackTable resetOutside resetUnranked brokenReply brokenAttack replyCertificate
+    attackCertificate certificateOf certified decimalWithin decimal numberLine verdictWord listingText refusalText pageFor pageOf lengthsOf answerTo
 starred-hold = refl

@@ -1,4 +1,5 @@
--- What a reader's promise decides, and what a writer may answer: the count of bytes that fit and stand at the front, or 10 at 0 with the buffer as it was. Assumes nothing.
+-- What a reader's promise decides, and what a writer may answer: the count of bytes that fit and stand at the front, or 10 at 0 with the buffer as
+-- it was. Assumes nothing.
 use Prim.Native.Nat.{ℕ, _<_, _≤_}
 use native.Mathlib.Omega.{arith}
 use mathlib.Core.List.{List}
@@ -27,13 +28,15 @@ pub fitted-refused : (bytes : List ℕ) (room : ℕ) → room < length bytes →
 unfolding fitted refuseIf
 fitted-refused bytes room h = rw (lt-ltb room (length bytes) h)
 
-pub written-bytes : (bytes before after : List ℕ) (n : ℕ) → length bytes ≤ length before → Wrote bytes 0 before after n → WrittenAs (fitted bytes (length before)) before after (Bytes n)
+pub written-bytes : (bytes before after : List ℕ) (n : ℕ) → length bytes ≤ length before → Wrote bytes 0 before after n
+    → WrittenAs (fitted bytes (length before)) before after (Bytes n)
 unfolding writtenOutcome countOf bufferAfter
 written-bytes bytes before after n h w =
     rw (fitted-taken bytes (length before) h)
     (record { answer = ap {B = Outcome ℕ} taken (omega (arith, w .answer)); bytes = w .stand (omega arith) ∙ sets-front before bytes h })
 
-pub written-refused : (bytes buffer : List ℕ) → length buffer < length bytes → WrittenAs (fitted bytes (length buffer)) buffer buffer (Refused (record { number = noRoom; place = 0 }))
+pub written-refused : (bytes buffer : List ℕ) → length buffer < length bytes
+    → WrittenAs (fitted bytes (length buffer)) buffer buffer (Refused (record { number = noRoom; place = 0 }))
 unfolding writtenOutcome countOf bufferAfter
 written-refused bytes buffer h = rw (fitted-refused bytes (length buffer) h) (record { answer = refl; bytes = refl })
 
@@ -48,17 +51,20 @@ same-written (Refused r) (Refused s) e =
     λ x. Refused (record { number = number x; place = place x })
 
 -- the promise of a writer decides its answer and every byte of its buffer
-pub written-decided : (outcome : Outcome (List ℕ)) (before l m : List ℕ) (r s : Written) → WrittenAs outcome before l r → WrittenAs outcome before m s → (r ≡ s) × (l ≡ m)
+pub written-decided : (outcome : Outcome (List ℕ)) (before l m : List ℕ) (r s : Written) → WrittenAs outcome before l r → WrittenAs outcome before m s
+    → (r ≡ s) × (l ≡ m)
 written-decided outcome before l m r s v w = (same-written r s (v .answer ∙ sym (w .answer)), v .bytes ∙ sym (w .bytes))
 
 -- a refusal writes nothing
-pub refused-writes-nothing : (outcome : Outcome (List ℕ)) (before after : List ℕ) (r : Written) (number place : ℕ) → WrittenAs outcome before after r → writtenOutcome r ≡ refused number place → after ≡ before
+pub refused-writes-nothing : (outcome : Outcome (List ℕ)) (before after : List ℕ) (r : Written) (number place : ℕ) → WrittenAs outcome before after r
+    → writtenOutcome r ≡ refused number place → after ≡ before
 unfolding countOf bufferAfter
 refused-writes-nothing (taken bytes) before after r number place w e = absurd (refused-is-not-taken number place (length bytes) (sym e ∙ w .answer))
 refused-writes-nothing (refused n p) before after r number place w e = w .bytes
 
 -- what is counted stands at the front
-pub counted-stands : (outcome : Outcome (List ℕ)) (before after : List ℕ) (r : Written) (n : ℕ) → WrittenAs outcome before after r → writtenOutcome r ≡ taken n → outcome ≡ taken (take n after)
+pub counted-stands : (outcome : Outcome (List ℕ)) (before after : List ℕ) (r : Written) (n : ℕ) → WrittenAs outcome before after r
+    → writtenOutcome r ≡ taken n → outcome ≡ taken (take n after)
 unfolding countOf bufferAfter
 counted-stands (taken bytes) before after r n w e =
     let told : taken n ≡ taken (length bytes) = sym e ∙ w .answer in

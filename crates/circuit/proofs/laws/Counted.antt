@@ -9,5 +9,9 @@ use Rattle.circuit.specs.Stored.{lent}
 cut : (n m : ℕ) (l : List ℕ) → n ≡ min m (length l) → take n l ≡ take m l
 cut n m l e = ap (λ (k : ℕ). take k l) e ∙ take-min m l
 
-pub lent-counted : (largest : ℕ) (input controllable latch next : List ℕ) (output : ℕ) (gate left right : List ℕ) (inputs latches gates i l g : ℕ) → i ≡ min inputs (length input) → l ≡ min latches (length latch) → g ≡ min gates (length gate) → lent largest (take i input) controllable (take l latch) next output (take g gate) left right ≡ lent largest (take inputs input) controllable (take latches latch) next output (take gates gate) left right
-lent-counted largest input controllable latch next output gate left right inputs latches gates i l g e f h = λ x. lent largest (cut i inputs input e x) controllable (cut l latches latch f x) next output (cut g gates gate h x) left right
+pub lent-counted : (largest : ℕ) (input controllable latch next : List ℕ) (output : ℕ) (gate left right : List ℕ) (inputs latches gates i l g : ℕ)
+    → i ≡ min inputs (length input) → l ≡ min latches (length latch) → g ≡ min gates (length gate)
+    → lent largest (take i input) controllable (take l latch) next output (take g gate) left right ≡ lent largest (take inputs input) controllable
+    (take latches latch) next output (take gates gate) left right
+lent-counted largest input controllable latch next output gate left right inputs latches gates i l g e f h =
+    λ x. lent largest (cut i inputs input e x) controllable (cut l latches latch f x) next output (cut g gates gate h x) left right

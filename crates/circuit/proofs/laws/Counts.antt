@@ -41,14 +41,17 @@ module _ (largest : ℕ) (input controllable latch next : List ℕ) (output : �
   unfolding latchCount lent latchesOf
   lent-latches = length-table _ (min (length latch) (base .latches))
 
-  pub lent-controllable : controllableCount (lent largest input controllable latch next output gate left right) ≡ inputsThat (λ j. j .controllable) (inputsOf input controllable)
+  pub lent-controllable : controllableCount (lent largest input controllable latch next output gate left right) ≡ inputsThat (λ j. j .controllable)
+      (inputsOf input controllable)
   unfolding controllableCount lent
   lent-controllable = refl
 
-  pub lent-inputs : uncontrollableCount (lent largest input controllable latch next output gate left right) + controllableCount (lent largest input controllable latch next output gate left right) ≡ length input
+  pub lent-inputs : uncontrollableCount (lent largest input controllable latch next output gate left right) + controllableCount
+      (lent largest input controllable latch next output gate left right) ≡ length input
   unfolding uncontrollableCount controllableCount lent
   lent-inputs = inputs-of-two-sorts (inputsOf input controllable) ∙ length-inputs input controllable
 
   -- what is left of the inputs when the controllable ones are counted
-  pub lent-others : (n : ℕ) → n ≡ inputsThat (λ j. j .controllable) (inputsOf input controllable) → (n ≤ length input) × (length input - n ≡ uncontrollableCount (lent largest input controllable latch next output gate left right))
+  pub lent-others : (n : ℕ) → n ≡ inputsThat (λ j. j .controllable) (inputsOf input controllable) → (n ≤ length input)
+      × (length input - n ≡ uncontrollableCount (lent largest input controllable latch next output gate left right))
   lent-others n e = (omega (arith, lent-controllable, lent-inputs), omega (arith, lent-controllable, lent-inputs))

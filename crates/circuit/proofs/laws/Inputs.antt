@@ -18,7 +18,8 @@ unfolding inputsThat
 inputs-append p [] js = omega arith
 inputs-append p (i ∷ is) js = by (p i) (inputs-append p is js)
   where
-    by : (b : Bool) → inputsThat p (is ++ js) ≡ inputsThat p is + inputsThat p js → cond b (suc (inputsThat p (is ++ js))) (inputsThat p (is ++ js)) ≡ cond b (suc (inputsThat p is)) (inputsThat p is) + inputsThat p js
+    by : (b : Bool) → inputsThat p (is ++ js) ≡ inputsThat p is + inputsThat p js
+        → cond b (suc (inputsThat p (is ++ js))) (inputsThat p (is ++ js)) ≡ cond b (suc (inputsThat p is)) (inputsThat p is) + inputsThat p js
     by true ih = omega arith
     by false ih = omega arith
 
@@ -37,7 +38,9 @@ unfolding inputsThat
 inputs-parted p [] = refl
 inputs-parted p (i ∷ is) = by (p i) (inputs-parted p is)
   where
-    by : (b : Bool) → inputsThat p is + inputsThat (λ j. not (p j)) is ≡ length is → cond b (suc (inputsThat p is)) (inputsThat p is) + cond (not b) (suc (inputsThat (λ j. not (p j)) is)) (inputsThat (λ j. not (p j)) is) ≡ suc (length is)
+    by : (b : Bool) → inputsThat p is + inputsThat (λ j. not (p j)) is ≡ length is
+        → cond b (suc (inputsThat p is)) (inputsThat p is) + cond (not b) (suc (inputsThat (λ j. not (p j)) is)) (inputsThat (λ j. not (p j)) is) ≡ suc
+        (length is)
     by true ih = omega arith
     by false ih = omega arith
 
@@ -65,15 +68,27 @@ module _ (input controllable : List ℕ) where
   unfolding table inputsThat
   counting-start = record { within = omega arith; most = omega arith; counted = refl }
 
-  pub counting-one : (n i : ℕ) → Counting input controllable n i → i < length input → (getD controllable i 0 ≡ 0 → ⊥) → Counting input controllable (n + 1) (i + 1)
+  pub counting-one : (n i : ℕ) → Counting input controllable n i → i < length input → (getD controllable i 0 ≡ 0 → ⊥)
+      → Counting input controllable (n + 1) (i + 1)
   unfolding inputAt
-  counting-one n i w h d = record { within = omega arith; most = omega arith; counted = count-passes (λ (j : Input). j .controllable) (inputAt input controllable) i n (w .counted) (ap not (ne-eqb (getD controllable i 0) 0 d)) }
+  counting-one n i w h d = record {
+    within = omega arith;
+    most = omega arith;
+    counted =
+        count-passes (λ (j : Input). j .controllable) (inputAt input controllable) i n (w .counted) (ap not (ne-eqb (getD controllable i 0) 0 d));
+  }
 
   pub counting-none : (n i : ℕ) → Counting input controllable n i → i < length input → getD controllable i 0 ≡ 0 → Counting input controllable n (i + 1)
   unfolding inputAt
-  counting-none n i w h e = record { within = omega arith; most = omega arith; counted = count-fails (λ (j : Input). j .controllable) (inputAt input controllable) i n (w .counted) (ap not (eq-eqb (getD controllable i 0) 0 e)) }
+  counting-none n i w h e = record {
+    within = omega arith;
+    most = omega arith;
+    counted =
+        count-fails (λ (j : Input). j .controllable) (inputAt input controllable) i n (w .counted) (ap not (eq-eqb (getD controllable i 0) 0 e));
+  }
 
-  pub counting-end : (n i : ℕ) → Counting input controllable n i → length input ≤ i → n ≡ inputsThat (λ (j : Input). j .controllable) (inputsOf input controllable)
+  pub counting-end : (n i : ℕ) → Counting input controllable n i → length input ≤ i
+      → n ≡ inputsThat (λ (j : Input). j .controllable) (inputsOf input controllable)
   unfolding inputsOf inputAt
   counting-end n i w h =
       let all : i ≡ length input = omega arith in

@@ -6,7 +6,20 @@ use mathlib.Core.Bool.{Bool, true, false, cond, not}
 use mathlib.Core.List.{List, [], _∷_, _++_, map}
 use mathlib.Core.Path.{_≡_, refl, sym, ap, _∙_, subst}
 use lib.Dec.{eqb}
-use lib.ListN.{length, getD, take, replicate, length-append, length-map, length-take, length-replicate, getD-replicate, List·getD-append, List·getD-map, List·getD-eq-default}
+use lib.ListN.{
+  length,
+  getD,
+  take,
+  replicate,
+  length-append,
+  length-map,
+  length-take,
+  length-replicate,
+  getD-replicate,
+  List·getD-append,
+  List·getD-map,
+  List·getD-eq-default,
+}
 use lib.Seq.{ext-getD, getD-take, getD-append-add}
 use Rattle.below.specs.Table.{table}
 use Rattle.below.proofs.laws.Table.{table-same, table-getD}
@@ -98,7 +111,8 @@ module _ (c : Circuit) (fits : Fits c) where
   literal f l d z small i =
       literal-small (getD (map f l) i 0) (small i) ∙ ap (λ (m : ℕ). getD (map f l) i m) (sym z) ∙ List·getD-map f l i d
 
-  inputs-back : inputsOf (take (length (c .inputs)) (padded (base .inputs) (map (λ (i : Input). i .own) (c .inputs)))) (padded (base .inputs) (map (λ (i : Input). oneIf (i .controllable)) (c .inputs))) ≡ c .inputs
+  inputs-back : inputsOf (take (length (c .inputs)) (padded (base .inputs) (map (λ (i : Input). i .own) (c .inputs))))
+      (padded (base .inputs) (map (λ (i : Input). oneIf (i .controllable)) (c .inputs))) ≡ c .inputs
   unfolding inputsOf oneIf
   inputs-back = rw (field-list own (base .inputs) is (fits .inputs)) (rebuilt is d (λ i. at i) (length (map own is)) (length-map is own) (λ i h. same i))
     where
@@ -129,9 +143,11 @@ module _ (c : Circuit) (fits : Fits c) where
       same : (i : ℕ) → at i ≡ getD is i d
       same i = λ j. record { own = literal own is d refl (fits .input) i j; controllable = flagged i j }
 
-  latches-back : latchesOf (take (length (c .latches)) (padded (base .latches) (map (λ (l : Latch). l .own) (c .latches)))) (padded (base .latches) (map (λ (l : Latch). l .next) (c .latches))) ≡ c .latches
+  latches-back : latchesOf (take (length (c .latches)) (padded (base .latches) (map (λ (l : Latch). l .own) (c .latches))))
+      (padded (base .latches) (map (λ (l : Latch). l .next) (c .latches))) ≡ c .latches
   unfolding latchesOf
-  latches-back = rw (field-list own (base .latches) ls (fits .latches)) (rebuilt ls d (λ i. at i) (min (length (map own ls)) (base .latches)) few (λ i h. same i))
+  latches-back = rw (field-list own (base .latches) ls (fits .latches))
+      (rebuilt ls d (λ i. at i) (min (length (map own ls)) (base .latches)) few (λ i h. same i))
     where
       ls : List Latch
       ls = c .latches
@@ -163,7 +179,8 @@ module _ (c : Circuit) (fits : Fits c) where
             next = (ap literalOf (field-at next (base .latches) ls (fits .latches) i) ∙ literal next ls d refl (fits .next) i) j;
           }
 
-  gates-back : gatesOf (take (length (c .gates)) (padded (base .variable) (map (λ (g : Gate). g .own) (c .gates)))) (padded (base .variable) (map (λ (g : Gate). g .left) (c .gates))) (padded (base .variable) (map (λ (g : Gate). g .right) (c .gates))) ≡ c .gates
+  gates-back : gatesOf (take (length (c .gates)) (padded (base .variable) (map (λ (g : Gate). g .own) (c .gates))))
+      (padded (base .variable) (map (λ (g : Gate). g .left) (c .gates))) (padded (base .variable) (map (λ (g : Gate). g .right) (c .gates))) ≡ c .gates
   unfolding gatesOf
   gates-back = rw (field-list own (base .variable) gs (fits .gates)) (rebuilt gs d (λ i. at i) (length (map own gs)) (length-map gs own) (λ i h. same i))
     where

@@ -17,7 +17,8 @@ module _ {A B : Type 0} where
   bind-taken (refused number place) f b e = absurd (refused-is-not-taken number place b e)
 
 -- a test that refused nothing, and what came after it
-pub passed-test : {B : Type 0} (t : Bool) (number place : ℕ) (next : Outcome B) (b : B) → (refuseIf t number place >> next) ≡ taken b → (t ≡ false) × (next ≡ taken b)
+pub passed-test : {B : Type 0} (t : Bool) (number place : ℕ) (next : Outcome B) (b : B) → (refuseIf t number place >> next) ≡ taken b → (t ≡ false)
+    × (next ≡ taken b)
 unfolding refuseIf
 passed-test true number place next b e = absurd (refused-is-not-taken number place b e)
 passed-test false number place next b e = (refl, e)

@@ -5,7 +5,8 @@ use Rattle.circuit.specs.Circuit.{Circuit, Input}
 use Rattle.circuit.specs.SameCircuit.{SameCircuit, SameHeader, SameLines}
 
 -- inputs with the same literals and flags are the same inputs
-same-inputs : (is js : List Input) → map (λ (i : Input). i .own) is ≡ map (λ (i : Input). i .own) js → map (λ (i : Input). i .controllable) is ≡ map (λ (i : Input). i .controllable) js → is ≡ js
+same-inputs : (is js : List Input) → map (λ (i : Input). i .own) is ≡ map (λ (i : Input). i .own) js
+    → map (λ (i : Input). i .controllable) is ≡ map (λ (i : Input). i .controllable) js → is ≡ js
 same-inputs [] [] e f = refl
 same-inputs [] (j ∷ js) e f = cc
 same-inputs (i ∷ is) [] e f = cc
@@ -23,4 +24,9 @@ same-is-equal c d s =
     λ x. record { largest = s .header .largest x; inputs = inputs x; latches = s .lines .latches x; output = s .lines .output x; gates = s .lines .gates x }
 
 pub equal-is-same : (c d : Circuit) → c ≡ d → SameCircuit c d
-equal-is-same c d e = subst (SameCircuit c) e (record { header = record { largest = refl; inputs = refl; latches = refl; gates = refl }; lines = record { inputs = refl; latches = refl; output = refl; gates = refl }; controllable = refl })
+equal-is-same c d e = subst (SameCircuit c) e (record {
+  header = record { largest = refl; inputs = refl; latches = refl; gates = refl };
+  lines =
+      record { inputs = refl; latches = refl; output = refl; gates = refl };
+  controllable = refl;
+})

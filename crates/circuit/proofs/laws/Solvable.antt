@@ -31,7 +31,8 @@ module _ (c : Circuit) (U C : ℕ) (uncontrollable : U ≡ uncontrollableCount c
 pub few-are : (U C : ℕ) → (ltb (base .uncontrollable) U || ltb (base .controllable) C) ≡ false → (U ≤ base .uncontrollable) × (C ≤ base .controllable)
 few-are U C e = by (ltb (base .uncontrollable) U) (ltb (base .controllable) C) refl refl e
   where
-    by : (a b : Bool) → ltb (base .uncontrollable) U ≡ a → ltb (base .controllable) C ≡ b → (a || b) ≡ false → (U ≤ base .uncontrollable) × (C ≤ base .controllable)
+    by : (a b : Bool) → ltb (base .uncontrollable) U ≡ a → ltb (base .controllable) C ≡ b → (a || b) ≡ false → (U ≤ base .uncontrollable)
+        × (C ≤ base .controllable)
     by true b p q e = absurd (let z : _≡_ {A = ℕ} 0 1 = cc in omega arith)
     by false true p q e = absurd (let z : _≡_ {A = ℕ} 0 1 = cc in omega arith)
     by false false p q e = (ltb-false _ _ p, ltb-false _ _ q)
@@ -42,6 +43,7 @@ unfolding lent inputsOf latchesOf gatesOf literalOf tooLarge emptyCircuit table
 lent-nothing controllable next left right = refl
 
 -- L of lent lists
-pub lent-latches : (largest : ℕ) (input controllable latch next : List ℕ) (output : ℕ) (gate left right : List ℕ) → latchCount (lent largest input controllable latch next output gate left right) ≡ min (length latch) (base .latches)
+pub lent-latches : (largest : ℕ) (input controllable latch next : List ℕ) (output : ℕ) (gate left right : List ℕ)
+    → latchCount (lent largest input controllable latch next output gate left right) ≡ min (length latch) (base .latches)
 unfolding latchCount lent latchesOf
 lent-latches largest input controllable latch next output gate left right = length-table _ _

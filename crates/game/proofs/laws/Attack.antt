@@ -19,20 +19,26 @@ use Rattle.game.proofs.laws.Rank.{ranks-are, ranked-is, is-ranked}
 use Rattle.game.proofs.laws.Region.{region-closed, region-rank, rank-region, outside-ranked}
 
 -- an attack that breaks no rule, of a state that is ranked: a reading under which no control leaves the states of smaller rank
-pub unbroken-attack : (g : Game) (ranks attacks : ℕ → ℕ) (s : ℕ) → attackBroken g ranks attacks s ≡ false → 0 < ranks s → (attacks s < g .readings) × (defeats g ranks (ranks s - 1) s (attacks s) ≡ true)
+pub unbroken-attack : (g : Game) (ranks attacks : ℕ → ℕ) (s : ℕ) → attackBroken g ranks attacks s ≡ false → 0 < ranks s → (attacks s < g .readings)
+    × (defeats g ranks (ranks s - 1) s (attacks s) ≡ true)
 unfolding attackBroken
 unbroken-attack g ranks attacks s e h =
-    let fine = both-true (ltb (attacks s) (g .readings)) (defeats g ranks (ranks s - 1) s (attacks s)) (not-false _ (sym (ap (λ (b : Bool). b && not (ltb (attacks s) (g .readings) && defeats g ranks (ranks s - 1) s (attacks s))) (lt-ltb 0 (ranks s) h)) ∙ e)) in
+    let fine = both-true (ltb (attacks s) (g .readings)) (defeats g ranks (ranks s - 1) s (attacks s))
+    (not-false _ (sym (ap (λ (b : Bool). b && not (ltb (attacks s) (g .readings) && defeats g ranks (ranks s - 1) s (attacks s)))
+    (lt-ltb 0 (ranks s) h)) ∙ e)) in
     (ltb-true _ _ (fine .0), fine .1)
 
 -- under a reading that defeats, a control without error leads to a smaller rank
-pub defeat-lowers : (g : Game) (ranks : ℕ → ℕ) (k s r c : ℕ) → defeats g ranks k s r ≡ true → c < g .controls → (g .step s r c) .error ≡ false → (0 < ranks ((g .step s r c) .next)) × (ranks ((g .step s r c) .next) ≤ k)
+pub defeat-lowers : (g : Game) (ranks : ℕ → ℕ) (k s r c : ℕ) → defeats g ranks k s r ≡ true → c < g .controls → (g .step s r c) .error ≡ false
+    → (0 < ranks ((g .step s r c) .next)) × (ranks ((g .step s r c) .next) ≤ k)
 unfolding defeats keeps
-defeat-lowers g ranks k s r c e h f = ranked-is ranks k ((g .step s r c) .next) (sym (ap (λ (b : Bool). not b && notRanked ranks k ((g .step s r c) .next)) f) ∙ unanswered g (notRanked ranks k) s r c (not-true _ e) h)
+defeat-lowers g ranks k s r c e h f = ranked-is ranks k ((g .step s r c) .next)
+    (sym (ap (λ (b : Bool). not b && notRanked ranks k ((g .step s r c) .next)) f) ∙ unanswered g (notRanked ranks k) s r c (not-true _ e) h)
 
 module _ (g : Game) (proper : Proper g) where
   -- no state of a closed set has a rank in a table that breaks no rule
-  pub unbroken-unranked : (ranks attacks : ℕ → ℕ) → ((s : ℕ) → s < g .states → attackBroken g ranks attacks s ≡ false) → (P : ℕ → Type 0) → Closed g P → (s : ℕ) → s < g .states → P s → ranks s ≡ 0
+  pub unbroken-unranked : (ranks attacks : ℕ → ℕ) → ((s : ℕ) → s < g .states → attackBroken g ranks attacks s ≡ false) → (P : ℕ → Type 0) → Closed g P
+      → (s : ℕ) → s < g .states → P s → ranks s ≡ 0
   unfolding Closed Keeps
   unbroken-unranked ranks attacks rule P closed s h p = by (ranks s) refl
     where
@@ -48,7 +54,8 @@ module _ (g : Game) (proper : Proper g) where
       by zero e = e
       by (suc m) e = absurd (falls (suc m) s h p (omega arith) (omega arith))
 
-  pub unbroken-outside : (ranks attacks : ℕ → ℕ) → ((s : ℕ) → s < g .states → attackBroken g ranks attacks s ≡ false) → (s : ℕ) → s < g .states → 0 < ranks s → inRegion g s ≡ false
+  pub unbroken-outside : (ranks attacks : ℕ → ℕ) → ((s : ℕ) → s < g .states → attackBroken g ranks attacks s ≡ false) → (s : ℕ) → s < g .states
+      → 0 < ranks s → inRegion g s ≡ false
   unbroken-outside ranks attacks rule s h low = by (inRegion g s) refl
     where
       by : (b : Bool) → inRegion g s ≡ b → inRegion g s ≡ false
@@ -81,6 +88,7 @@ module _ (g : Game) (proper : Proper g) where
   unfolding attackBroken
   attacks-unbroken s h = by (inRegion g s) refl
     where
-      by : (b : Bool) → inRegion g s ≡ b → (ltb 0 (rank g s) && not (ltb (attack g s) (g .readings) && defeats g (rank g) (rank g s - 1) s (attack g s))) ≡ false
+      by : (b : Bool) → inRegion g s ≡ b
+          → (ltb 0 (rank g s) && not (ltb (attack g s) (g .readings) && defeats g (rank g) (rank g s - 1) s (attack g s))) ≡ false
       by true e = rw (le-ltb 0 (rank g s) (omega (arith, region-rank g s e)))
       by false e = rw (lt-ltb 0 (rank g s) (outside-ranked g s e), lt-ltb (attack g s) (g .readings) (attack-is-reading s h e), attack-shows s h e)

@@ -17,7 +17,13 @@ circuit-proper c = record { leads = λ s r k. next-below c s r k; choice = pow-p
 
 pub circuit-acts : (c : Circuit) (s r k : ℕ) → ActsAs (circuitGame c) s r k
 unfolding circuitGame
-circuit-acts c s r k = record { control = k % n; below = within; alike = sym (bits-above-not-read c s r k) ∙ ap (step c (s % 2 ^ latchCount c) (r % 2 ^ uncontrollableCount c)) (sym (mod-eq-of-lt within)) ∙ bits-above-not-read c s r (k % n) }
+circuit-acts c s r k = record {
+  control = k % n;
+  below = within;
+  alike =
+      sym (bits-above-not-read c s r k) ∙ ap (step c (s % 2 ^ latchCount c) (r % 2 ^ uncontrollableCount c)) (sym (mod-eq-of-lt within))
+      ∙ bits-above-not-read c s r (k % n);
+}
   where
     n : ℕ
     n = 2 ^ controllableCount c

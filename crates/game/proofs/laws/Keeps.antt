@@ -25,7 +25,8 @@ module _ (g : Game) where
   unfolding keeps
   keeps-same set other s r k e = ap (λ (b : Bool). not ((g .step s r k) .error) && b) e
 
-  pub answered-same : (set other : ℕ → Bool) (s r : ℕ) → ((k : ℕ) → set ((g .step s r k) .next) ≡ other ((g .step s r k) .next)) → answered g set s r ≡ answered g other s r
+  pub answered-same : (set other : ℕ → Bool) (s r : ℕ) → ((k : ℕ) → set ((g .step s r k) .next) ≡ other ((g .step s r k) .next))
+      → answered g set s r ≡ answered g other s r
   unfolding answered
   answered-same set other s r e = any-same (keeps g set s r) (keeps g other s r) (g .controls) (λ k h. keeps-same set other s r k (e k))
 

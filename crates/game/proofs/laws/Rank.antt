@@ -37,7 +37,10 @@ unranked-above ranks k s h = rw (lt-leb (ranks s) k h) (ap not (and-false (leb 1
 
 -- a rank above 0 is above the bound, or the state is of rank 1 to the bound
 pub above-unranked : (ranks : ℕ → ℕ) (k s x : ℕ) → x ≡ ranks s → 1 ≤ x → ltb k x ≡ notRanked ranks k s
-above-unranked ranks k s x e h = elim (decLt k x) [ yes l ↦ lt-ltb k x l ∙ sym (unranked-above ranks k s (omega arith)) | no l ↦ le-ltb k x (omega arith) ∙ sym (is-ranked ranks k s (omega arith) (omega arith)) ]
+above-unranked ranks k s x e h = elim (decLt k x) [
+  | yes l ↦ lt-ltb k x l ∙ sym (unranked-above ranks k s (omega arith))
+  | no l ↦ le-ltb k x (omega arith) ∙ sym (is-ranked ranks k s (omega arith) (omega arith))
+]
 
 module _ (g : Game) where
   pub rank-at-most : (s : ℕ) → rank g s ≤ g .states
@@ -61,7 +64,9 @@ module _ (g : Game) (proper : Proper g) where
   -- past the last round no more is ranked
   beyond : (j s : ℕ) → g .states ≤ j → notRanked (ranksAfter g (g .states)) (g .states) s ≡ notRanked (rank g) j s
   unfolding notRanked rank
-  beyond j s h = ap (λ (b : Bool). not (leb 1 (ranksAfter g (g .states) s) && b)) (le-leb (ranksAfter g (g .states) s) (g .states) (rank-most g (g .states) s) ∙ sym (le-leb (ranksAfter g (g .states) s) j (omega (arith, rank-most g (g .states) s))))
+  beyond j s h = ap (λ (b : Bool). not (leb 1 (ranksAfter g (g .states) s) && b))
+      (le-leb (ranksAfter g (g .states) s) (g .states) (rank-most g (g .states) s)
+      ∙ sym (le-leb (ranksAfter g (g .states) s) j (omega (arith, rank-most g (g .states) s))))
 
   pub ranks-are : AreRanks g (rank g)
   unfolding rank
@@ -74,11 +79,16 @@ module _ (g : Game) (proper : Proper g) where
       least s k j h e l = sym (settled-defeat j s (omega (arith, rank-most g (g .states) s))) ∙ undefeated g k s j (born g (g .states) s k e .before) l
 
       never : (s j : ℕ) → s < g .states → rank g s ≡ 0 → defeated g (rank g) j s ≡ false
-      never s j h e = elim (decLt j (g .states)) [ yes l ↦ sym (settled-defeat j s (omega arith)) ∙ undefeated g (g .states) s j e l | no l ↦ sym (defeated-same g proper (ranksAfter g (g .states)) (rank g) (g .states) j s (λ t m. beyond j t (omega arith))) ∙ region-undefeated g proper s h e ]
+      never s j h e = elim (decLt j (g .states)) [
+        | yes l ↦ sym (settled-defeat j s (omega arith)) ∙ undefeated g (g .states) s j e l
+        | no l ↦ sym (defeated-same g proper (ranksAfter g (g .states)) (rank g) (g .states) j s (λ t m. beyond j t (omega arith)))
+            ∙ region-undefeated g proper s h e
+      ]
 
   -- one way of: two functions that are ranks rank the same states 1 to k
   module _ (ranks other : ℕ → ℕ) (these : AreRanks g ranks) (those : AreRanks g other) where
-    carries : (k s : ℕ) → s < g .states → ((t : ℕ) → t < g .states → notRanked ranks k t ≡ notRanked other k t) → ranks s ≡ suc k → (0 < other s) × (other s ≤ suc k)
+    carries : (k s : ℕ) → s < g .states → ((t : ℕ) → t < g .states → notRanked ranks k t ≡ notRanked other k t) → ranks s ≡ suc k → (0 < other s)
+        × (other s ≤ suc k)
     carries k s h same e = by (other s) refl
       where
         lost : defeated g other k s ≡ true
@@ -95,7 +105,8 @@ module _ (g : Game) (proper : Proper g) where
       none-at-zero r = elim (decLt 0 (r s)) [ yes l ↦ unranked-above r 0 s l | no l ↦ unranked-zero r 0 s (omega arith) ]
   same-ranked ranks other these those (suc k) s h = by (notRanked ranks (suc k) s) (notRanked other (suc k) s) refl refl (same-ranked ranks other these those k)
     where
-      over : (a b : ℕ → ℕ) → AreRanks g a → AreRanks g b → ((t : ℕ) → t < g .states → notRanked a k t ≡ notRanked b k t) → notRanked a (suc k) s ≡ false → notRanked b (suc k) s ≡ true → ⊥
+      over : (a b : ℕ → ℕ) → AreRanks g a → AreRanks g b → ((t : ℕ) → t < g .states → notRanked a k t ≡ notRanked b k t)
+          → notRanked a (suc k) s ≡ false → notRanked b (suc k) s ≡ true → ⊥
       over a b these those ih e f =
           let (low, high) = ranked-is a (suc k) s e in
           let there : (0 < b s) × (b s ≤ suc k) =
@@ -105,7 +116,8 @@ module _ (g : Game) (proper : Proper g) where
           ] in
           true≢false (sym f ∙ is-ranked b (suc k) s (there .0) (there .1))
 
-      by : (a b : Bool) → notRanked ranks (suc k) s ≡ a → notRanked other (suc k) s ≡ b → ((t : ℕ) → t < g .states → notRanked ranks k t ≡ notRanked other k t) → notRanked ranks (suc k) s ≡ notRanked other (suc k) s
+      by : (a b : Bool) → notRanked ranks (suc k) s ≡ a → notRanked other (suc k) s ≡ b
+          → ((t : ℕ) → t < g .states → notRanked ranks k t ≡ notRanked other k t) → notRanked ranks (suc k) s ≡ notRanked other (suc k) s
       by true true e f ih = e ∙ sym f
       by true false e f ih = absurd (over other ranks those these (λ t l. sym (ih t l)) f e)
       by false true e f ih = absurd (over ranks other these those ih e f)

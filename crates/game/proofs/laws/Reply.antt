@@ -17,13 +17,16 @@ use Rattle.game.proofs.laws.Keeps.{keeps-true, true-keeps, answers}
 use Rattle.game.proofs.laws.Region.{region-closed, closed-in-region}
 
 -- a reply that breaks no rule, of a state in the set: a control that keeps
-pub unbroken-reply : (g : Game) (set : ℕ → Bool) (replies : ℕ → ℕ → ℕ) (s r : ℕ) → replyBroken g set replies s r ≡ false → set s ≡ true → (replies s r < g .controls) × Keeps g (λ t. set t ≡ true) s r (replies s r)
+pub unbroken-reply : (g : Game) (set : ℕ → Bool) (replies : ℕ → ℕ → ℕ) (s r : ℕ) → replyBroken g set replies s r ≡ false → set s ≡ true
+    → (replies s r < g .controls) × Keeps g (λ t. set t ≡ true) s r (replies s r)
 unfolding replyBroken
 unbroken-reply g set replies s r e h =
-    let fine = both-true (ltb (replies s r) (g .controls)) (keeps g set s r (replies s r)) (not-false _ (sym (ap (λ (b : Bool). b && not (ltb (replies s r) (g .controls) && keeps g set s r (replies s r))) h) ∙ e)) in
+    let fine = both-true (ltb (replies s r) (g .controls)) (keeps g set s r (replies s r))
+    (not-false _ (sym (ap (λ (b : Bool). b && not (ltb (replies s r) (g .controls) && keeps g set s r (replies s r))) h) ∙ e)) in
     (ltb-true _ _ (fine .0), keeps-true g set s r (replies s r) (fine .1))
 
-pub reply-unbroken : (g : Game) (set : ℕ → Bool) (replies : ℕ → ℕ → ℕ) (s r : ℕ) → (set s ≡ true → (replies s r < g .controls) × Keeps g (λ t. set t ≡ true) s r (replies s r)) → replyBroken g set replies s r ≡ false
+pub reply-unbroken : (g : Game) (set : ℕ → Bool) (replies : ℕ → ℕ → ℕ) (s r : ℕ)
+    → (set s ≡ true → (replies s r < g .controls) × Keeps g (λ t. set t ≡ true) s r (replies s r)) → replyBroken g set replies s r ≡ false
 unfolding replyBroken
 reply-unbroken g set replies s r h = by (set s) refl
   where
@@ -32,11 +35,13 @@ reply-unbroken g set replies s r h = by (set s) refl
     by false e = rw e
 
 -- a table that breaks no rule has a closed set, so its set lies inside the region
-pub unbroken-closed : (g : Game) (set : ℕ → Bool) (replies : ℕ → ℕ → ℕ) → ((s r : ℕ) → s < g .states → r < g .readings → replyBroken g set replies s r ≡ false) → Closed g (λ s. set s ≡ true)
+pub unbroken-closed : (g : Game) (set : ℕ → Bool) (replies : ℕ → ℕ → ℕ)
+    → ((s r : ℕ) → s < g .states → r < g .readings → replyBroken g set replies s r ≡ false) → Closed g (λ s. set s ≡ true)
 unfolding Closed
 unbroken-closed g set replies rule s r h e l = let (below, keep) = unbroken-reply g set replies s r (rule s r h l) e in (replies s r, below, keep)
 
-pub unbroken-in-region : (g : Game) → Proper g → (set : ℕ → Bool) (replies : ℕ → ℕ → ℕ) → ((s r : ℕ) → s < g .states → r < g .readings → replyBroken g set replies s r ≡ false) → (s : ℕ) → s < g .states → set s ≡ true → inRegion g s ≡ true
+pub unbroken-in-region : (g : Game) → Proper g → (set : ℕ → Bool) (replies : ℕ → ℕ → ℕ)
+    → ((s r : ℕ) → s < g .states → r < g .readings → replyBroken g set replies s r ≡ false) → (s : ℕ) → s < g .states → set s ≡ true → inRegion g s ≡ true
 unbroken-in-region g proper set replies rule = closed-in-region g proper (λ s. set s ≡ true) (unbroken-closed g set replies rule)
 
 pub reply-outside : (g : Game) (s r : ℕ) → inRegion g s ≡ false → reply g s r ≡ 0

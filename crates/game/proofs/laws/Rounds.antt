@@ -119,9 +119,11 @@ module _ (g : Game) where
 
 module _ (g : Game) (proper : Proper g) where
   -- defeat looks only at which states are ranked
-  pub defeated-same : (ranks other : ℕ → ℕ) (k j s : ℕ) → ((t : ℕ) → t < g .states → notRanked ranks k t ≡ notRanked other j t) → defeated g ranks k s ≡ defeated g other j s
+  pub defeated-same : (ranks other : ℕ → ℕ) (k j s : ℕ) → ((t : ℕ) → t < g .states → notRanked ranks k t ≡ notRanked other j t)
+      → defeated g ranks k s ≡ defeated g other j s
   unfolding defeated safe
-  defeated-same ranks other k j s e = ap not (every-same _ _ (g .readings) (λ r h. answered-same g (notRanked ranks k) (notRanked other j) s r (λ c. e _ (proper .leads s r c))))
+  defeated-same ranks other k j s e =
+      ap not (every-same _ _ (g .readings) (λ r h. answered-same g (notRanked ranks k) (notRanked other j) s r (λ c. e _ (proper .leads s r c))))
 
   still-next : (n : ℕ) → Still g n → Still g (suc n)
   unfolding Still
@@ -158,7 +160,8 @@ module _ (g : Game) (proper : Proper g) where
 
   pub still-ranks : (n s : ℕ) → Still g n → n ≤ g .states → s < g .states → ranksAfter g n s ≡ rank g s
   unfolding rank
-  still-ranks n s still l h = sym (unchanged-on n (g .states - n) s still h) ∙ ap (λ (m : ℕ). ranksAfter g m s) {x = g .states - n + n} {y = g .states} (omega arith)
+  still-ranks n s still l h = sym (unchanged-on n (g .states - n) s still h)
+      ∙ ap (λ (m : ℕ). ranksAfter g m s) {x = g .states - n + n} {y = g .states} (omega arith)
 
   -- how many states have a rank after n rounds
   rankedCount : ℕ → ℕ
@@ -194,7 +197,9 @@ module _ (g : Game) (proper : Proper g) where
           let one : rankedCount n < rankedCount (suc n) = ranks-more n s h (eqb-false _ _ f) in
           omega arith
 
-      by : ((j : ℕ) × (j < n) × ((s : ℕ) → s < g .states → ranksAfter g (suc j) s ≡ ranksAfter g j s)) ⊎ (n ≤ rankedCount n) → (t : Bool) → every (λ s. eqb (ranksAfter g (suc n) s) (ranksAfter g n s)) (g .states) ≡ t → ((j : ℕ) × (j < suc n) × ((s : ℕ) → s < g .states → ranksAfter g (suc j) s ≡ ranksAfter g j s)) ⊎ (suc n ≤ rankedCount (suc n))
+      by : ((j : ℕ) × (j < n) × ((s : ℕ) → s < g .states → ranksAfter g (suc j) s ≡ ranksAfter g j s)) ⊎ (n ≤ rankedCount n) → (t : Bool)
+          → every (λ s. eqb (ranksAfter g (suc n) s) (ranksAfter g n s)) (g .states) ≡ t
+          → ((j : ℕ) × (j < suc n) × ((s : ℕ) → s < g .states → ranksAfter g (suc j) s ≡ ranksAfter g j s)) ⊎ (suc n ≤ rankedCount (suc n))
       by (inl (j, h, still)) t e = inl (j, omega arith, still)
       by (inr m) true e = inl (n, omega arith, λ s h. eqb-true _ _ (every-at _ _ s e h))
       by (inr m) false e = inr (changes e m)
@@ -204,7 +209,8 @@ module _ (g : Game) (proper : Proper g) where
   unfolding Still rankedCount
   rounds-suffice = by (still-or-many (g .states))
     where
-      by : ((j : ℕ) × (j < g .states) × ((s : ℕ) → s < g .states → ranksAfter g (suc j) s ≡ ranksAfter g j s)) ⊎ (g .states ≤ rankedCount (g .states)) → (s : ℕ) → s < g .states → ranksAfter g (suc (g .states)) s ≡ ranksAfter g (g .states) s
+      by : ((j : ℕ) × (j < g .states) × ((s : ℕ) → s < g .states → ranksAfter g (suc j) s ≡ ranksAfter g j s)) ⊎ (g .states ≤ rankedCount (g .states))
+          → (s : ℕ) → s < g .states → ranksAfter g (suc (g .states)) s ≡ ranksAfter g (g .states) s
       by (inl w) s h = subst (Still g) (omega (arith, w .1)) (still-on (w .0) (g .states - w .0) (w .2)) s h
       by (inr m) s h = go (rounded g (g .states) s)
         where

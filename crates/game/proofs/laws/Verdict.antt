@@ -32,4 +32,5 @@ module _ (g : Game) (proper : Proper g) (isReset : ℕ → Bool) where
 
   pub realizable-complete : Realizable g isReset → realizable g isReset ≡ true
   unfolding realizable
-  realizable-complete w = every-of _ _ (λ s h. implies (isReset s) (inRegion g s) (λ e. closed-in-region g proper (w .set) (w .closed) s h (w .holdsReset s h e)))
+  realizable-complete w = every-of _ _ (λ s h. implies (isReset s) (inRegion g s)
+      (λ e. closed-in-region g proper (w .set) (w .closed) s h (w .holdsReset s h e)))

@@ -72,13 +72,31 @@ use Rattle.checker.specs.declared.Checked.{Checked}
 use Rattle.checker.proofs.laws.Answer.{same-outcome-same-answer}
 use Rattle.checker.proofs.laws.Exact.{check-refused-exactly}
 use Rattle.checker.proofs.laws.Numbered.{check-numbered}
-use Rattle.checker.proofs.laws.ReadPassed.{passed-reads, carries-its-file, never-both-as-read, replies-hold-as-read, replies-realizable-as-read, attacks-err-as-read, attacks-unrealizable-as-read}
+use Rattle.checker.proofs.laws.ReadPassed.{
+  passed-reads,
+  carries-its-file,
+  never-both-as-read,
+  replies-hold-as-read,
+  replies-realizable-as-read,
+  attacks-err-as-read,
+  attacks-unrealizable-as-read,
+}
 use Rattle.writer.specs.Answer.{Verdict, CertifiedAs, certifiedOutcome, certificateFor, verdictFor}
 use Rattle.writer.specs.Certificate.{certificateOf}
 use Rattle.writer.specs.declared.Certified.{Certified}
 use Rattle.writer.proofs.laws.Decided.{certified-decided}
 use Rattle.writer.proofs.laws.Longest.{longest-certificate}
-use Rattle.writer.proofs.laws.OwnCertificate.{refused-certifies-nothing, verdict-refused-exactly, certify-refused-exactly, room-certifies, own-bit, own-region, own-reply, own-rank, own-attack}
+use Rattle.writer.proofs.laws.OwnCertificate.{
+  refused-certifies-nothing,
+  verdict-refused-exactly,
+  certify-refused-exactly,
+  room-certifies,
+  own-bit,
+  own-region,
+  own-reply,
+  own-rank,
+  own-attack,
+}
 use Rattle.capi.specs.Plain.{readAnswer, stepAnswer, certifyAnswer, checkAnswer, printAnswer}
 use Rattle.capi.specs.Stepped.{fileStepped}
 use Rattle.capi.specs.declared.CertifyAnswer.{CertifyAnswer}
@@ -86,28 +104,46 @@ use Rattle.capi.specs.declared.CheckAnswer.{CheckAnswer}
 use Rattle.capi.specs.declared.PrintAnswer.{PrintAnswer}
 use Rattle.capi.specs.declared.ReadAnswer.{ReadAnswer}
 use Rattle.capi.specs.declared.StepAnswer.{StepAnswer}
-use Rattle.capi.proofs.laws.Zero.{zero-read, number-read, zero-stepped, number-stepped, zero-certified, number-certified, zero-replies, zero-attacks, zero-kind, number-checked, zero-printed, number-printed}
+use Rattle.capi.proofs.laws.Zero.{
+  zero-read,
+  number-read,
+  zero-stepped,
+  number-stepped,
+  zero-certified,
+  number-certified,
+  zero-replies,
+  zero-attacks,
+  zero-kind,
+  number-checked,
+  zero-printed,
+  number-printed,
+}
 use Rattle.mission.proofs.laws.InOrder.{read-in-order}
 
 -- RULE 1. Every input is met.
 --
 -- "A file or table of any content gets the numbered reply that its faults call for." Each refusal has its row in the table of numbers, and each
 -- row is refused so: of the reader, of the checker, of the writer of certificates and of the printer.
-pub reader-refuses-exactly : (file : List ℕ) (r : FileRead) (number place : ℕ) → ReadAs (circuitIn file) r → (readOutcome (r .answer) ≡ refused number place) ↔ Row base file number place
+pub reader-refuses-exactly : (file : List ℕ) (r : FileRead) (number place : ℕ) → ReadAs (circuitIn file) r
+    → (readOutcome (r .answer) ≡ refused number place) ↔ Row base file number place
 unfolding circuitIn
 reader-refuses-exactly file r number place w = (
   λ e. refused-exactly base file number place .0 (reader-refused-exactly file r number place w .0 e),
   λ t. reader-refused-exactly file r number place w .1 (refused-exactly base file number place .1 t),
 )
 
-pub checker-refuses-exactly : (file certificate : List ℕ) (a : Checked) (number place : ℕ) → checkedOutcome a ≡ answerOf file certificate → (checkedOutcome a ≡ refused number place) ↔ CheckRow file certificate number place
+pub checker-refuses-exactly : (file certificate : List ℕ) (a : Checked) (number place : ℕ) → checkedOutcome a ≡ answerOf file certificate
+    → (checkedOutcome a ≡ refused number place) ↔ CheckRow file certificate number place
 checker-refuses-exactly file certificate a number place w =
     (λ e. check-refused-exactly file certificate number place .0 (sym w ∙ e), λ t. w ∙ check-refused-exactly file certificate number place .1 t)
 
-pub writer-refuses-exactly : (file before after : List ℕ) (r : Certified) (number place : ℕ) → CertifiedAs file (circuitIn file) before after r → (certifiedOutcome r ≡ refused number place) ↔ WriterRow file (certificateOf file) (length before) number place
+pub writer-refuses-exactly : (file before after : List ℕ) (r : Certified) (number place : ℕ) → CertifiedAs file (circuitIn file) before after r
+    → (certifiedOutcome r ≡ refused number place) ↔ WriterRow file (certificateOf file) (length before) number place
 writer-refuses-exactly file before after r number place w = certify-refused-exactly file before after r number place w
 
-pub printer-refuses-exactly : (file before after : List ℕ) (r : Written) (number place : ℕ) → WrittenAs (filePrinted file (length before)) before after r → (writtenOutcome r ≡ refused number place) ↔ WriterRow file printed (length before) number place
+pub printer-refuses-exactly : (file before after : List ℕ) (r : Written) (number place : ℕ)
+    → WrittenAs (filePrinted file (length before)) before after r → (writtenOutcome r ≡ refused number place) ↔ WriterRow file printed (length before)
+    number place
 printer-refuses-exactly file before after r number place w = print-refused-exactly file before after r number place w
 
 -- A refusal's number is one of the table's, and never 0.
@@ -126,32 +162,39 @@ pub writer-numbered :
     (file before after : List ℕ) (r : Certified) (number place : ℕ) → CertifiedAs file (circuitIn file) before after r
     → certifiedOutcome r ≡ refused number place
     → (1 ≤ number) × (number ≤ 10)
-writer-numbered file before after r number place w e = row-numbered file (certificateOf file) (length before) number place (certify-refused-exactly file before after r number place w .0 e)
+writer-numbered file before after r number place w e = row-numbered file (certificateOf file) (length before) number place
+    (certify-refused-exactly file before after r number place w .0 e)
 
 pub printer-numbered :
     (file before after : List ℕ) (r : Written) (number place : ℕ) → WrittenAs (filePrinted file (length before)) before after r
     → writtenOutcome r ≡ refused number place
     → (1 ≤ number) × (number ≤ 10)
-printer-numbered file before after r number place w e = row-numbered file printed (length before) number place (print-refused-exactly file before after r number place w .0 e)
+printer-numbered file before after r number place w e = row-numbered file printed (length before) number place
+    (print-refused-exactly file before after r number place w .0 e)
 
 -- "no caller has to check first": no promise has a condition on what the call is given, and each decides its answer and its buffer.
 pub reader-decided : (file : List ℕ) (r s : FileRead) → ReadAs (circuitIn file) r → ReadAs (circuitIn file) s → r ≡ s
 reader-decided file r s v w = read-decided (circuitIn file) r s v w
 
-pub checker-decided : (file certificate : List ℕ) (a b : Checked) → checkedOutcome a ≡ answerOf file certificate → checkedOutcome b ≡ answerOf file certificate → a ≡ b
+pub checker-decided : (file certificate : List ℕ) (a b : Checked) → checkedOutcome a ≡ answerOf file certificate
+    → checkedOutcome b ≡ answerOf file certificate → a ≡ b
 checker-decided file certificate a b e f = same-outcome-same-answer a b (e ∙ sym f)
 
-pub writer-decided : (file before l m : List ℕ) (r s : Certified) → CertifiedAs file (circuitIn file) before l r → CertifiedAs file (circuitIn file) before m s → (r ≡ s) × (l ≡ m)
+pub writer-decided : (file before l m : List ℕ) (r s : Certified) → CertifiedAs file (circuitIn file) before l r
+    → CertifiedAs file (circuitIn file) before m s → (r ≡ s) × (l ≡ m)
 writer-decided file before l m r s v w = certified-decided file (circuitIn file) before l m r s v w
 
-pub printer-decided : (file before l m : List ℕ) (r s : Written) → WrittenAs (filePrinted file (length before)) before l r → WrittenAs (filePrinted file (length before)) before m s → (r ≡ s) × (l ≡ m)
+pub printer-decided : (file before l m : List ℕ) (r s : Written) → WrittenAs (filePrinted file (length before)) before l r
+    → WrittenAs (filePrinted file (length before)) before m s → (r ≡ s) × (l ≡ m)
 printer-decided file before l m r s v w = written-decided (filePrinted file (length before)) before l m r s v w
 
 -- "a refusal writes nothing into a lent buffer."
-pub writer-refusal-writes-nothing : (file before after : List ℕ) (r : Certified) (number place : ℕ) → CertifiedAs file (circuitIn file) before after r → certifiedOutcome r ≡ refused number place → after ≡ before
+pub writer-refusal-writes-nothing : (file before after : List ℕ) (r : Certified) (number place : ℕ) → CertifiedAs file (circuitIn file) before after r
+    → certifiedOutcome r ≡ refused number place → after ≡ before
 writer-refusal-writes-nothing file before after r number place w e = refused-certifies-nothing file (circuitIn file) before after r number place w e
 
-pub printer-refusal-writes-nothing : (file before after : List ℕ) (r : Written) (number place : ℕ) → WrittenAs (filePrinted file (length before)) before after r → writtenOutcome r ≡ refused number place → after ≡ before
+pub printer-refusal-writes-nothing : (file before after : List ℕ) (r : Written) (number place : ℕ)
+    → WrittenAs (filePrinted file (length before)) before after r → writtenOutcome r ≡ refused number place → after ≡ before
 printer-refusal-writes-nothing file before after r number place w e = refused-writes-nothing (filePrinted file (length before)) before after r number place w e
 
 -- RULE 2.
@@ -159,7 +202,8 @@ printer-refusal-writes-nothing file before after r number place w e = refused-wr
 -- "The circuit read is the one that the AIGER text means." A file is read as a circuit exactly if it is, byte by byte, the text written for
 -- a file as the format asks, within the limits, whose circuit it is; it is the text of one such file only; and the value read stands for it,
 -- for the step (`meant`) and for solver, writer and checker (`solvable`).
-pub read-exactly : (file : List ℕ) (c : Circuit) → (circuitIn file ≡ taken c) ↔ ((f : TextFile) × (file ≡ textOf f) × WellFormed base f × (tooMany base (circuitOf f) ≡ false) × (circuitOf f ≡ c))
+pub read-exactly : (file : List ℕ) (c : Circuit) → (circuitIn file ≡ taken c) ↔
+    ((f : TextFile) × (file ≡ textOf f) × WellFormed base f × (tooMany base (circuitOf f) ≡ false) × (circuitOf f ≡ c))
 unfolding circuitIn
 read-exactly file c = (
   λ e. let (f, g, few, is) = taken-circuit base file c .0 e in let (text, well) = taken-exactly file f .0 g in (f, text, well, few, is),
@@ -169,7 +213,8 @@ read-exactly file c = (
 pub text-of-one : (f g : TextFile) → WellFormed base f → WellFormed base g → textOf f ≡ textOf g → f ≡ g
 text-of-one f g v w e = written-once f g v w e
 
-pub reader-stores : (file : List ℕ) (r : FileRead) → ReadAs (circuitIn file) r → r .answer ≡ Taken → (c : Circuit) × (circuitIn file ≡ taken c) × (meant (r .circuit) ≡ c) × (solvable (meant (r .circuit)) ≡ c)
+pub reader-stores : (file : List ℕ) (r : FileRead) → ReadAs (circuitIn file) r → r .answer ≡ Taken → (c : Circuit) × (circuitIn file ≡ taken c)
+    × (meant (r .circuit) ≡ c) × (solvable (meant (r .circuit)) ≡ c)
 reader-stores file r w e = let m = taken-means file r w e in (m .circuit, m .read, m .meant-is, m .solvable-is)
 
 -- What its lines mean in a step, by no order of evaluation (`Settled`): each latch and input has its bit of state, reading or control, and each
@@ -205,7 +250,8 @@ realizable-only-if c e = realizable-sound (circuitGame c) (circuit-proper c) (is
 pub region-largest : (c : Circuit) → IsRegion (circuitGame c) (λ s. inRegion (circuitGame c) s ≡ true)
 region-largest c = region-is-largest (circuitGame c) (circuit-proper c)
 
-pub ranks-reported : (file : List ℕ) (c : Circuit) → circuitIn file ≡ taken c → (s : ℕ) → s < circuitGame c .states → ranksIn (rankTable (circuitGame c)) s ≡ rank (circuitGame c) s
+pub ranks-reported : (file : List ℕ) (c : Circuit) → circuitIn file ≡ taken c → (s : ℕ) → s < circuitGame c .states
+    → ranksIn (rankTable (circuitGame c)) s ≡ rank (circuitGame c) s
 unfolding circuitGame
 ranks-reported file c e s h = rank-in-table (circuitGame c) (pow-mono (read-within file c e .fewLatches)) s h
 
@@ -236,7 +282,8 @@ module _ (file : List ℕ) (c : Circuit) (reads : circuitIn file ≡ taken c) wh
 
 -- "A printed circuit reads back as the same circuit." What a printer counted stands at the front of its buffer; whatever is asked of the circuit
 -- that is read there is answered alike (`Alike`).
-module _ (file : List ℕ) (c : Circuit) (before after : List ℕ) (r : Written) (n : ℕ) (reads : circuitIn file ≡ taken c) (w : WrittenAs (filePrinted file (length before)) before after r) (told : writtenOutcome r ≡ taken n) where
+module _ (file : List ℕ) (c : Circuit) (before after : List ℕ) (r : Written) (n : ℕ) (reads : circuitIn file ≡ taken c)
+    (w : WrittenAs (filePrinted file (length before)) before after r) (told : writtenOutcome r ≡ taken n) where
   pub print-read : circuitIn (take n after) ≡ taken c
   print-read = print-reads-back file c reads before after r n w told
 
@@ -257,7 +304,8 @@ module _ (file certificate : List ℕ) (c : Circuit) (reads : circuitIn file ≡
   -- "Reply table: from reset, for each finite run of readings, a reply is there, the error stays 0, the state stays in the region.": by what
   -- `region_bit` and `reply` read at the starts that the check answers.
   module _ (region table L U : ℕ) (pass : answerOf file certificate ≡ taken (ofReplies region table L U)) where
-    pub replies-hold : (rs : List ℕ) → AllBelow (2 ^ U) rs → RepliesHold (circuitGame c) (holdsState (drop region certificate) L) (replyIn (drop region certificate) (drop table certificate) L U) 0 rs
+    pub replies-hold : (rs : List ℕ) → AllBelow (2 ^ U) rs → RepliesHold (circuitGame c) (holdsState (drop region certificate) L)
+        (replyIn (drop region certificate) (drop table certificate) L U) 0 rs
     replies-hold rs h = replies-hold-as-read file certificate c reads region table L U pass rs h
 
     pub replies-realizable : isRealizable c ≡ true
@@ -273,7 +321,8 @@ module _ (file certificate : List ℕ) (c : Circuit) (reads : circuitIn file ≡
     pub attacks-unrealizable : isRealizable c ≡ false
     attacks-unrealizable = attacks-unrealizable-as-read file certificate c reads table L U pass
 
-pub never-both : (file one other : List ℕ) (region table L U table₂ L₂ U₂ : ℕ) → answerOf file one ≡ taken (ofReplies region table L U) → answerOf file other ≡ taken (ofAttacks table₂ L₂ U₂) → ⊥
+pub never-both : (file one other : List ℕ) (region table L U table₂ L₂ U₂ : ℕ) → answerOf file one ≡ taken (ofReplies region table L U)
+    → answerOf file other ≡ taken (ofAttacks table₂ L₂ U₂) → ⊥
 never-both file one other region table L U table₂ L₂ U₂ e f = never-both-as-read file one other region table L U table₂ L₂ U₂ e f
 
 -- "Each circuit that is read gets, given the room, a certificate from our own solver, and that one passes." What is counted stands at the

@@ -11,10 +11,12 @@ stored-rank-requires : tie.Need-stored-rank-requires
 stored-rank-requires c κs = search needs
 
 returns : tie.Need-returns
-returns c = let a = c .before .before .before .args in sym (unranked-zero (storedRank (a .table .now) (a .latches)) (a .bound) (a .state) (omega (arith, c .before .stored-rank .ensures)))
+returns c = let a = c .before .before .before .args in
+    sym (unranked-zero (storedRank (a .table .now) (a .latches)) (a .bound) (a .state) (omega (arith, c .before .stored-rank .ensures)))
 
 returns-2 : tie.Need-returns-2
-returns-2 c = let a = c .before .before .before .args in above-unranked (storedRank (a .table .now) (a .latches)) (a .bound) (a .state) (c .before .stored-rank .result) (c .before .stored-rank .ensures) (c .if1 .left)
+returns-2 c = let a = c .before .before .before .args in above-unranked (storedRank (a .table .now) (a .latches)) (a .bound) (a .state)
+    (c .before .stored-rank .result) (c .before .stored-rank .ensures) (c .if1 .left)
 
 pub is-unranked-spec : {M : Type 1} → statement M
 is-unranked-spec = tie.close (tie.spec stored-rank-requires returns returns-2)

@@ -13,7 +13,8 @@ use Rattle.text.specs.Numbers.{notDefined}
 use Rattle.text.specs.Rules.{firstOf, badOwn, isDefined, unknown, latchRule, gateRule}
 use Rattle.text.specs.Symbol.{isName, isControllableName}
 
-pub prefix-at-the-start : (isControllableName (ascii "uncontrollable_a") ≡ false) × (isControllableName (ascii "Controllable_a") ≡ false) × (isControllableName (ascii "controllable_") ≡ true)
+pub prefix-at-the-start : (isControllableName (ascii "uncontrollable_a") ≡ false) × (isControllableName (ascii "Controllable_a") ≡ false)
+    × (isControllableName (ascii "controllable_") ≡ true)
 unfolding isControllableName startsWith
 prefix-at-the-start = (refl, refl, refl)
 

@@ -19,7 +19,25 @@ use Rattle.text.specs.Section.{Body, onward}
 use Rattle.text.specs.Stages.{inputSection, latchSection, outputSection, gateSection, lateStage, symbolStage}
 use Rattle.text.specs.Unknown.{lateLiterals, Unknown}
 use Rattle.text.specs.WellFormed.{Known}
-use Rattle.text.proofs.laws.FirstFault.{body, section-first, first-section, section-right, right-section, right-length, first-front, first-behind, Where, front, behind, where-first, right-join, Split, right-split, defined-join, first-range}
+use Rattle.text.proofs.laws.FirstFault.{
+  body,
+  section-first,
+  first-section,
+  section-right,
+  right-section,
+  right-length,
+  first-front,
+  first-behind,
+  Where,
+  front,
+  behind,
+  where-first,
+  right-join,
+  Split,
+  right-split,
+  defined-join,
+  first-range,
+}
 use Rattle.text.proofs.laws.NoSymbol.{symbols-broken, broken-symbols}
 use Rattle.text.proofs.laws.Outcome.{taken-is-not-refused, bind-refused, then-refused}
 use Rattle.text.proofs.laws.Stages.{fileOf, behindLate, behindGates, behindOutput, behindLatches, behindInputs}
@@ -131,8 +149,10 @@ module _ (h : Header) (rest : List (List ℕ)) where
   sections : (rows : List (List ℕ)) → AllRight (h .largest) (kinds h) [] rest rows → Sections rows
   sections rows w =
       let a : Split (h .largest) anInput latchKinds (h .inputs) [] rest rows = right-split (h .largest) anInput latchKinds (h .inputs) [] rest rows w in
-      let b : Split (h .largest) aLatch outputKinds (h .latches) (byI (a .rows)) restI (a .more) = right-split (h .largest) aLatch outputKinds (h .latches) (byI (a .rows)) restI (a .more) (a .others) in
-      let d : Split (h .largest) theOutput gateKinds 1 (byL (a .rows) (b .rows)) restL (b .more) = right-split (h .largest) theOutput gateKinds 1 (byL (a .rows) (b .rows)) restL (b .more) (b .others) in
+      let b : Split (h .largest) aLatch outputKinds (h .latches) (byI (a .rows)) restI (a .more) =
+      right-split (h .largest) aLatch outputKinds (h .latches) (byI (a .rows)) restI (a .more) (a .others) in
+      let d : Split (h .largest) theOutput gateKinds 1 (byL (a .rows) (b .rows)) restL (b .more) =
+      right-split (h .largest) theOutput gateKinds 1 (byL (a .rows) (b .rows)) restL (b .more) (b .others) in
       record {
         ins = a .rows;
         lats = b .rows;
@@ -163,22 +183,32 @@ module _ (h : Header) (rest : List (List ℕ)) where
         defined-join (h .largest) anInput latchKinds (h .inputs) ins (lats ++ (outs ++ gs)) (right-length (h .largest) anInput (h .inputs) ins [] rest rI)
         ∙ ap {B = List ℕ} (λ d. byI ins ++ d)
         (defined-join (h .largest) aLatch outputKinds (h .latches) lats (outs ++ gs) (right-length (h .largest) aLatch (h .latches) lats (byI ins) restI rL)
-        ∙ ap {B = List ℕ} (λ d. dL ++ d) (defined-join (h .largest) theOutput gateKinds 1 outs gs (right-length (h .largest) theOutput 1 outs (byL ins lats) restL rO)))
+        ∙ ap {B = List ℕ} (λ d. dL ++ d) (defined-join (h .largest) theOutput gateKinds 1 outs gs
+        (right-length (h .largest) theOutput 1 outs (byL ins lats) restL rO)))
         ∙ sym (append-assoc (byI ins) dL (dO ++ dG))
         ∙ sym (append-assoc (byL ins lats) dO dG)
 
     late-all : lateLiterals h allRows ≡ map (λ fs. getD fs 1 0) lats ++ map (λ fs. getD fs 0 0) outs
     late-all =
-        let i : drop (h .inputs) allRows ≡ lats ++ (outs ++ gs) = drop-front (h .inputs) ins (lats ++ (outs ++ gs)) (right-length (h .largest) anInput (h .inputs) ins [] rest rI) in
+        let i : drop (h .inputs) allRows ≡ lats ++ (outs ++ gs) = drop-front (h .inputs) ins (lats ++ (outs ++ gs))
+        (right-length (h .largest) anInput (h .inputs) ins [] rest rI) in
         let n : length lats ≡ h .latches = right-length (h .largest) aLatch (h .latches) lats (byI ins) restI rL in
         ap₂ {C = List ℕ} (λ (a b : List (List ℕ)). map (λ fs. getD fs 1 0) a ++ map (λ fs. getD fs 0 0) b)
         (ap (take (h .latches)) i ∙ take-front (h .latches) lats (outs ++ gs) n)
-        (ap (take 1) (ap (drop (h .latches)) i ∙ drop-front (h .latches) lats (outs ++ gs) n) ∙ take-front 1 outs gs (right-length (h .largest) theOutput 1 outs (byL ins lats) restL rO))
+        (ap (take 1) (ap (drop (h .latches)) i ∙ drop-front (h .latches) lats (outs ++ gs) n)
+        ∙ take-front 1 outs gs (right-length (h .largest) theOutput 1 outs (byL ins lats) restL rO))
 
   rest-all : drop (length (kinds h)) rest ≡ restG
   rest-all =
       let n : length (kinds h) ≡ h .inputs + h .latches + 1 + h .gates =
-      omega (arith, length-append (replicate (h .inputs) anInput) latchKinds, length-append (replicate (h .latches) aLatch) outputKinds, length-replicate (h .inputs) anInput, length-replicate (h .latches) aLatch, length-replicate (h .gates) aGate)
+      omega (
+        arith,
+        length-append (replicate (h .inputs) anInput) latchKinds,
+        length-append (replicate (h .latches) aLatch) outputKinds,
+        length-replicate (h .inputs) anInput,
+        length-replicate (h .latches) aLatch,
+        length-replicate (h .gates) aGate,
+      )
       in
       ap (λ (m : ℕ). drop m rest) n
       ∙ sym (drop-drop (h .gates) (h .inputs + h .latches + 1) rest)
@@ -186,28 +216,45 @@ module _ (h : Header) (rest : List (List ℕ)) where
 
   module _ (number place : ℕ) where
     -- a first fault, told from the first line of the body on
-    from-latches : (ins : List (List ℕ)) → RightI ins → FirstFault (h .largest) latchKinds (byI ins) restI (2 + h .inputs) number place → FirstFault (h .largest) (kinds h) [] rest 2 number place
-    from-latches ins r f = first-behind (h .largest) anInput latchKinds number place (h .inputs) 2 [] rest ins (2 + h .inputs) (byI ins) restI r refl refl refl f
+    from-latches : (ins : List (List ℕ)) → RightI ins → FirstFault (h .largest) latchKinds (byI ins) restI (2 + h .inputs) number place
+        → FirstFault (h .largest) (kinds h) [] rest 2 number place
+    from-latches ins r f = first-behind (h .largest) anInput latchKinds number place (h .inputs) 2 [] rest ins (2 + h .inputs) (byI ins) restI r refl
+        refl refl f
 
-    from-output : (ins lats : List (List ℕ)) → RightI ins → RightL ins lats → FirstFault (h .largest) outputKinds (byL ins lats) restL (2 + h .inputs + h .latches) number place → FirstFault (h .largest) (kinds h) [] rest 2 number place
+    from-output : (ins lats : List (List ℕ)) → RightI ins → RightL ins lats
+        → FirstFault (h .largest) outputKinds (byL ins lats) restL (2 + h .inputs + h .latches) number place
+        → FirstFault (h .largest) (kinds h) [] rest 2 number place
     from-output ins lats r s f =
-        from-latches ins r (first-behind (h .largest) aLatch outputKinds number place (h .latches) (2 + h .inputs) (byI ins) restI lats (2 + h .inputs + h .latches) (byL ins lats) restL s refl refl refl f)
+        from-latches ins r (first-behind (h .largest) aLatch outputKinds number place (h .latches) (2 + h .inputs) (byI ins) restI lats
+        (2 + h .inputs + h .latches) (byL ins lats) restL s refl refl refl f)
 
-    from-gates : (ins lats outs : List (List ℕ)) → RightI ins → RightL ins lats → RightO ins lats outs → FirstFault (h .largest) gateKinds (byO ins lats outs) restO (3 + h .inputs + h .latches) number place → FirstFault (h .largest) (kinds h) [] rest 2 number place
+    from-gates : (ins lats outs : List (List ℕ)) → RightI ins → RightL ins lats → RightO ins lats outs
+        → FirstFault (h .largest) gateKinds (byO ins lats outs) restO (3 + h .inputs + h .latches) number place
+        → FirstFault (h .largest) (kinds h) [] rest 2 number place
     from-gates ins lats outs r s t f =
-        from-output ins lats r s (first-behind (h .largest) theOutput gateKinds number place 1 (2 + h .inputs + h .latches) (byL ins lats) restL outs (3 + h .inputs + h .latches) (byO ins lats outs) restO t (omega arith) refl refl f)
+        from-output ins lats r s (first-behind (h .largest) theOutput gateKinds number place 1 (2 + h .inputs + h .latches) (byL ins lats) restL outs
+        (3 + h .inputs + h .latches) (byO ins lats outs) restO t (omega arith) refl refl f)
 
-    behind-gates : (ins lats outs gs : List (List ℕ)) → RightI ins → RightL ins lats → RightO ins lats outs → RightG ins lats outs gs → behindGates h (bodyI ins) (bodyL ins lats) (bodyO ins lats outs) (bodyG ins lats outs gs) ≡ refused number place → BodyBroken h rest number place
+    behind-gates : (ins lats outs gs : List (List ℕ)) → RightI ins → RightL ins lats → RightO ins lats outs → RightG ins lats outs gs
+        → behindGates h (bodyI ins) (bodyL ins lats) (bodyO ins lats outs) (bodyG ins lats outs gs) ≡ refused number place → BodyBroken h rest number place
     behind-gates ins lats outs gs rI rL rO rG e =
-        elim (then-refused (lateStage h (bodyL ins lats) (bodyO ins lats outs) (bodyG ins lats outs gs)) (behindLate h (bodyI ins) (bodyL ins lats) (bodyO ins lats outs) (bodyG ins lats outs gs)) number place e) [
-          | inl r ↦ inUse all right (subst (λ (d : List ℕ). Unknown d (2 + h .inputs) (lateLiterals h all) number place) (sym known) (subst (λ (l : List ℕ). Unknown (byG ins lats outs gs) (2 + h .inputs) l number place) (sym late) (used-unknown (byG ins lats outs gs) (2 + h .inputs) lits number place r)))
+        elim (then-refused (lateStage h (bodyL ins lats) (bodyO ins lats outs) (bodyG ins lats outs gs))
+        (behindLate h (bodyI ins) (bodyL ins lats) (bodyO ins lats outs) (bodyG ins lats outs gs)) number place e) [
+          | inl r ↦ inUse all right (subst (λ (d : List ℕ). Unknown d (2 + h .inputs) (lateLiterals h all) number place) (sym known)
+              (subst (λ (l : List ℕ). Unknown (byG ins lats outs gs) (2 + h .inputs) l number place) (sym late)
+              (used-unknown (byG ins lats outs gs) (2 + h .inputs) lits number place r)))
           | inr u ↦
-              elim (bind-refused (symbolStage h (bodyG ins lats outs gs)) (λ behind. taken (fileOf h (bodyI ins) (bodyL ins lats) (bodyO ins lats outs) (bodyG ins lats outs gs) behind)) number place (u .2)) [
+              elim (bind-refused (symbolStage h (bodyG ins lats outs gs))
+              (λ behind. taken (fileOf h (bodyI ins) (bodyL ins lats) (bodyO ins lats outs) (bodyG ins lats outs gs) behind)) number place (u .2)) [
                 | inl r ↦
                     inSymbols all right
-                    (subst (λ (d : List ℕ). All (Known d) (lateLiterals h all)) (sym known) (subst (λ (l : List ℕ). All (Known (byG ins lats outs gs)) l) (sym late) (known-used (byG ins lats outs gs) (2 + h .inputs) lits tt (u .1))))
-                    (subst (λ (ls : List (List ℕ)). NoSymbol h (3 + h .inputs + h .latches + h .gates) [] ls number place) (sym rest-all) (symbols-broken h (3 + h .inputs + h .latches + h .gates) [] restG number place r))
-                | inr s ↦ absurd (taken-is-not-refused number place (fileOf h (bodyI ins) (bodyL ins lats) (bodyO ins lats outs) (bodyG ins lats outs gs) (s .0)) (s .2))
+                    (subst (λ (d : List ℕ). All (Known d) (lateLiterals h all)) (sym known)
+                    (subst (λ (l : List ℕ). All (Known (byG ins lats outs gs)) l) (sym late)
+                    (known-used (byG ins lats outs gs) (2 + h .inputs) lits tt (u .1))))
+                    (subst (λ (ls : List (List ℕ)). NoSymbol h (3 + h .inputs + h .latches + h .gates) [] ls number place) (sym rest-all)
+                    (symbols-broken h (3 + h .inputs + h .latches + h .gates) [] restG number place r))
+                | inr s ↦ absurd (taken-is-not-refused number place (fileOf h (bodyI ins) (bodyL ins lats) (bodyO ins lats outs)
+                    (bodyG ins lats outs gs) (s .0)) (s .2))
               ]
         ]
       where
@@ -226,21 +273,26 @@ module _ (h : Header) (rest : List (List ℕ)) where
         late : lateLiterals h all ≡ lits
         late = late-all ins lats outs gs rI rL rO rG
 
-    behind-output : (ins lats outs : List (List ℕ)) → RightI ins → RightL ins lats → RightO ins lats outs → behindOutput h (bodyI ins) (bodyL ins lats) (bodyO ins lats outs) ≡ refused number place → BodyBroken h rest number place
+    behind-output : (ins lats outs : List (List ℕ)) → RightI ins → RightL ins lats → RightO ins lats outs
+        → behindOutput h (bodyI ins) (bodyL ins lats) (bodyO ins lats outs) ≡ refused number place → BodyBroken h rest number place
     unfolding onward
     behind-output ins lats outs rI rL rO e =
         elim (bind-refused (gateSection h (bodyO ins lats outs)) (behindGates h (bodyI ins) (bodyL ins lats) (bodyO ins lats outs)) number place e) [
-          | inl r ↦ inLines (from-gates ins lats outs rI rL rO (section-first (h .largest) aGate (h .gates) (3 + h .inputs + h .latches) [] (byO ins lats outs) restO number place r))
+          | inl r ↦ inLines (from-gates ins lats outs rI rL rO (section-first (h .largest) aGate (h .gates) (3 + h .inputs + h .latches) []
+              (byO ins lats outs) restO number place r))
           | inr d ↦
               let (gs, rG, is) = section-right (h .largest) aGate (h .gates) (3 + h .inputs + h .latches) [] (byO ins lats outs) restO (d .0) (d .1) in
-              behind-gates ins lats outs gs rI rL rO rG (subst (λ (b : Body). behindGates h (bodyI ins) (bodyL ins lats) (bodyO ins lats outs) b ≡ refused number place) is (d .2))
+              behind-gates ins lats outs gs rI rL rO rG
+              (subst (λ (b : Body). behindGates h (bodyI ins) (bodyL ins lats) (bodyO ins lats outs) b ≡ refused number place) is (d .2))
         ]
 
-    behind-latches : (ins lats : List (List ℕ)) → RightI ins → RightL ins lats → behindLatches h (bodyI ins) (bodyL ins lats) ≡ refused number place → BodyBroken h rest number place
+    behind-latches : (ins lats : List (List ℕ)) → RightI ins → RightL ins lats → behindLatches h (bodyI ins) (bodyL ins lats) ≡ refused number place
+        → BodyBroken h rest number place
     unfolding onward
     behind-latches ins lats rI rL e =
         elim (bind-refused (outputSection h (bodyL ins lats)) (behindOutput h (bodyI ins) (bodyL ins lats)) number place e) [
-          | inl r ↦ inLines (from-output ins lats rI rL (first-front (h .largest) theOutput gateKinds number place 1 (2 + h .inputs + h .latches) (byL ins lats) restL (section-first (h .largest) theOutput 1 (2 + h .inputs + h .latches) [] (byL ins lats) restL number place r)))
+          | inl r ↦ inLines (from-output ins lats rI rL (first-front (h .largest) theOutput gateKinds number place 1 (2 + h .inputs + h .latches)
+              (byL ins lats) restL (section-first (h .largest) theOutput 1 (2 + h .inputs + h .latches) [] (byL ins lats) restL number place r)))
           | inr c ↦
               let (outs, rO, is) = section-right (h .largest) theOutput 1 (2 + h .inputs + h .latches) [] (byL ins lats) restL (c .0) (c .1) in
               behind-output ins lats outs rI rL rO (subst (λ (b : Body). behindOutput h (bodyI ins) (bodyL ins lats) b ≡ refused number place) is (c .2))
@@ -250,7 +302,8 @@ module _ (h : Header) (rest : List (List ℕ)) where
     unfolding onward
     behind-inputs ins rI e =
         elim (bind-refused (latchSection h (bodyI ins)) (behindLatches h (bodyI ins)) number place e) [
-          | inl r ↦ inLines (from-latches ins rI (first-front (h .largest) aLatch outputKinds number place (h .latches) (2 + h .inputs) (byI ins) restI (section-first (h .largest) aLatch (h .latches) (2 + h .inputs) [] (byI ins) restI number place r)))
+          | inl r ↦ inLines (from-latches ins rI (first-front (h .largest) aLatch outputKinds number place (h .latches) (2 + h .inputs) (byI ins) restI
+              (section-first (h .largest) aLatch (h .latches) (2 + h .inputs) [] (byI ins) restI number place r)))
           | inr b ↦
               let (lats, rL, is) = section-right (h .largest) aLatch (h .latches) (2 + h .inputs) [] (byI ins) restI (b .0) (b .1) in
               behind-latches ins lats rI rL (subst (λ (d : Body). behindLatches h (bodyI ins) d ≡ refused number place) is (b .2))
@@ -260,67 +313,104 @@ module _ (h : Header) (rest : List (List ℕ)) where
     unfolding linesRead
     lines-broken e =
         elim (bind-refused (inputSection h rest) (behindInputs h) number place e) [
-          | inl r ↦ inLines (first-front (h .largest) anInput latchKinds number place (h .inputs) 2 [] rest (section-first (h .largest) anInput (h .inputs) 2 [] [] rest number place r))
+          | inl r ↦ inLines (first-front (h .largest) anInput latchKinds number place (h .inputs) 2 [] rest
+              (section-first (h .largest) anInput (h .inputs) 2 [] [] rest number place r))
           | inr a ↦
               let (ins, rI, is) = section-right (h .largest) anInput (h .inputs) 2 [] [] rest (a .0) (a .1) in
               behind-inputs ins rI (subst (λ (b : Body). behindInputs h b ≡ refused number place) is (a .2))
         ]
 
     -- and where one is, the lines are refused
-    first-gates : (ins lats outs : List (List ℕ)) → RightI ins → RightL ins lats → RightO ins lats outs → FirstFault (h .largest) gateKinds (byO ins lats outs) restO (2 + h .inputs + h .latches + 1) number place → linesRead h rest ≡ refused number place
+    first-gates : (ins lats outs : List (List ℕ)) → RightI ins → RightL ins lats → RightO ins lats outs
+        → FirstFault (h .largest) gateKinds (byO ins lats outs) restO (2 + h .inputs + h .latches + 1) number place → linesRead h rest ≡ refused number place
     unfolding linesRead onward
     first-gates ins lats outs rI rL rO f =
         let here : 2 + h .inputs + h .latches + 1 ≡ 3 + h .inputs + h .latches = omega arith in
-        let refuses : gateSection h (bodyO ins lats outs) ≡ refused number place = first-section (h .largest) aGate (h .gates) (3 + h .inputs + h .latches) [] (byO ins lats outs) restO number place (subst (λ (q : ℕ). FirstFault (h .largest) gateKinds (byO ins lats outs) restO q number place) here f) in
+        let refuses : gateSection h (bodyO ins lats outs) ≡ refused number place =
+        first-section (h .largest) aGate (h .gates) (3 + h .inputs + h .latches) [] (byO ins lats outs) restO number place
+        (subst (λ (q : ℕ). FirstFault (h .largest) gateKinds (byO ins lats outs) restO q number place) here f) in
         rw (takes-inputs ins rI, takes-latches ins lats rL, takes-output ins lats outs rO, refuses)
 
-    first-output : (ins lats : List (List ℕ)) → RightI ins → RightL ins lats → Where (h .largest) theOutput gateKinds number place 1 (2 + h .inputs + h .latches) (byL ins lats) restL → linesRead h rest ≡ refused number place
+    first-output : (ins lats : List (List ℕ)) → RightI ins → RightL ins lats
+        → Where (h .largest) theOutput gateKinds number place 1 (2 + h .inputs + h .latches) (byL ins lats) restL → linesRead h rest ≡ refused number place
     unfolding linesRead onward
     first-output ins lats rI rL (front f) =
-        let refuses : outputSection h (bodyL ins lats) ≡ refused number place = first-section (h .largest) theOutput 1 (2 + h .inputs + h .latches) [] (byL ins lats) restL number place f in
+        let refuses : outputSection h (bodyL ins lats) ≡ refused number place =
+        first-section (h .largest) theOutput 1 (2 + h .inputs + h .latches) [] (byL ins lats) restL number place f in
         rw (takes-inputs ins rI, takes-latches ins lats rL, refuses)
     first-output ins lats rI rL (behind outs rO f) = first-gates ins lats outs rI rL rO f
 
-    first-latches : (ins : List (List ℕ)) → RightI ins → Where (h .largest) aLatch outputKinds number place (h .latches) (2 + h .inputs) (byI ins) restI → linesRead h rest ≡ refused number place
+    first-latches : (ins : List (List ℕ)) → RightI ins → Where (h .largest) aLatch outputKinds number place (h .latches) (2 + h .inputs) (byI ins)
+        restI → linesRead h rest ≡ refused number place
     unfolding linesRead onward
     first-latches ins rI (front f) =
-        let refuses : latchSection h (bodyI ins) ≡ refused number place = first-section (h .largest) aLatch (h .latches) (2 + h .inputs) [] (byI ins) restI number place f in
+        let refuses : latchSection h (bodyI ins) ≡ refused number place =
+        first-section (h .largest) aLatch (h .latches) (2 + h .inputs) [] (byI ins) restI number place f in
         rw (takes-inputs ins rI, refuses)
-    first-latches ins rI (behind lats rL f) = first-output ins lats rI rL (where-first (h .largest) theOutput gateKinds number place 1 (2 + h .inputs + h .latches) (byL ins lats) restL f)
+    first-latches ins rI (behind lats rL f) = first-output ins lats rI rL
+        (where-first (h .largest) theOutput gateKinds number place 1 (2 + h .inputs + h .latches) (byL ins lats) restL f)
 
     first-lines : Where (h .largest) anInput latchKinds number place (h .inputs) 2 [] rest → linesRead h rest ≡ refused number place
     unfolding linesRead
     first-lines (front f) =
         let refuses : inputSection h rest ≡ refused number place = first-section (h .largest) anInput (h .inputs) 2 [] [] rest number place f in
         rw refuses
-    first-lines (behind ins rI f) = first-latches ins rI (where-first (h .largest) aLatch outputKinds number place (h .latches) (2 + h .inputs) (byI ins) restI f)
+    first-lines (behind ins rI f) =
+        first-latches ins rI (where-first (h .largest) aLatch outputKinds number place (h .latches) (2 + h .inputs) (byI ins) restI f)
 
-    use-refused : (rows : List (List ℕ)) → Sections rows → Unknown (definedByAll (kinds h) rows) (2 + h .inputs) (lateLiterals h rows) number place → linesRead h rest ≡ refused number place
+    use-refused : (rows : List (List ℕ)) → Sections rows → Unknown (definedByAll (kinds h) rows) (2 + h .inputs) (lateLiterals h rows) number place
+        → linesRead h rest ≡ refused number place
     unfolding linesRead
     use-refused rows s u =
         let all : List (List ℕ) = s .ins ++ (s .lats ++ (s .outs ++ s .gs)) in
-        let v : Unknown (definedByAll (kinds h) all) (2 + h .inputs) (lateLiterals h all) number place = subst (λ (r : List (List ℕ)). Unknown (definedByAll (kinds h) r) (2 + h .inputs) (lateLiterals h r) number place) (s .whole) u in
-        let known : definedByAll (kinds h) all ≡ byG (s .ins) (s .lats) (s .outs) (s .gs) = known-all (s .ins) (s .lats) (s .outs) (s .gs) (s .rightI) (s .rightL) (s .rightO) (s .rightG) in
-        let late : lateLiterals h all ≡ map (λ fs. getD fs 1 0) (s .lats) ++ map (λ fs. getD fs 0 0) (s .outs) = late-all (s .ins) (s .lats) (s .outs) (s .gs) (s .rightI) (s .rightL) (s .rightO) (s .rightG) in
-        let refuses : lateStage h (bodyL (s .ins) (s .lats)) (bodyO (s .ins) (s .lats) (s .outs)) (bodyG (s .ins) (s .lats) (s .outs) (s .gs)) ≡ refused number place =
-        unknown-used (byG (s .ins) (s .lats) (s .outs) (s .gs)) (2 + h .inputs) (map (λ fs. getD fs 1 0) (s .lats) ++ map (λ fs. getD fs 0 0) (s .outs)) number place
-        (subst (λ (d : List ℕ). Unknown d (2 + h .inputs) (map (λ fs. getD fs 1 0) (s .lats) ++ map (λ fs. getD fs 0 0) (s .outs)) number place) known (subst (λ (l : List ℕ). Unknown (definedByAll (kinds h) all) (2 + h .inputs) l number place) late v))
+        let v : Unknown (definedByAll (kinds h) all) (2 + h .inputs) (lateLiterals h all) number place =
+        subst (λ (r : List (List ℕ)). Unknown (definedByAll (kinds h) r) (2 + h .inputs) (lateLiterals h r) number place) (s .whole) u in
+        let known : definedByAll (kinds h) all ≡ byG (s .ins) (s .lats) (s .outs) (s .gs) =
+        known-all (s .ins) (s .lats) (s .outs) (s .gs) (s .rightI) (s .rightL) (s .rightO) (s .rightG) in
+        let late : lateLiterals h all ≡ map (λ fs. getD fs 1 0) (s .lats) ++ map (λ fs. getD fs 0 0) (s .outs) =
+        late-all (s .ins) (s .lats) (s .outs) (s .gs) (s .rightI) (s .rightL) (s .rightO) (s .rightG) in
+        let refuses : lateStage h (bodyL (s .ins) (s .lats)) (bodyO (s .ins) (s .lats) (s .outs)) (bodyG (s .ins) (s .lats) (s .outs) (s .gs)) ≡
+        refused number place =
+        unknown-used (byG (s .ins) (s .lats) (s .outs) (s .gs)) (2 + h .inputs)
+        (map (λ fs. getD fs 1 0) (s .lats) ++ map (λ fs. getD fs 0 0) (s .outs)) number place
+        (subst (λ (d : List ℕ). Unknown d (2 + h .inputs) (map (λ fs. getD fs 1 0) (s .lats) ++ map (λ fs. getD fs 0 0) (s .outs)) number place) known
+        (subst (λ (l : List ℕ). Unknown (definedByAll (kinds h) all) (2 + h .inputs) l number place) late v))
         in
-        rw (takes-inputs (s .ins) (s .rightI), takes-latches (s .ins) (s .lats) (s .rightL), takes-output (s .ins) (s .lats) (s .outs) (s .rightO), takes-gates (s .ins) (s .lats) (s .outs) (s .gs) (s .rightG), refuses)
+        rw (
+          takes-inputs (s .ins) (s .rightI),
+          takes-latches (s .ins) (s .lats) (s .rightL),
+          takes-output (s .ins) (s .lats) (s .outs) (s .rightO),
+          takes-gates (s .ins) (s .lats) (s .outs) (s .gs) (s .rightG),
+          refuses,
+        )
 
-    symbols-refused : (rows : List (List ℕ)) → Sections rows → All (Known (definedByAll (kinds h) rows)) (lateLiterals h rows) → NoSymbol h (3 + h .inputs + h .latches + h .gates) [] (drop (length (kinds h)) rest) number place → linesRead h rest ≡ refused number place
+    symbols-refused : (rows : List (List ℕ)) → Sections rows → All (Known (definedByAll (kinds h) rows)) (lateLiterals h rows)
+        → NoSymbol h (3 + h .inputs + h .latches + h .gates) [] (drop (length (kinds h)) rest) number place → linesRead h rest ≡ refused number place
     unfolding linesRead
     symbols-refused rows s k n =
         let all : List (List ℕ) = s .ins ++ (s .lats ++ (s .outs ++ s .gs)) in
-        let v : All (Known (definedByAll (kinds h) all)) (lateLiterals h all) = subst (λ (r : List (List ℕ)). All (Known (definedByAll (kinds h) r)) (lateLiterals h r)) (s .whole) k in
-        let known : definedByAll (kinds h) all ≡ byG (s .ins) (s .lats) (s .outs) (s .gs) = known-all (s .ins) (s .lats) (s .outs) (s .gs) (s .rightI) (s .rightL) (s .rightO) (s .rightG) in
-        let late : lateLiterals h all ≡ map (λ fs. getD fs 1 0) (s .lats) ++ map (λ fs. getD fs 0 0) (s .outs) = late-all (s .ins) (s .lats) (s .outs) (s .gs) (s .rightI) (s .rightL) (s .rightO) (s .rightG) in
+        let v : All (Known (definedByAll (kinds h) all)) (lateLiterals h all) =
+        subst (λ (r : List (List ℕ)). All (Known (definedByAll (kinds h) r)) (lateLiterals h r)) (s .whole) k in
+        let known : definedByAll (kinds h) all ≡ byG (s .ins) (s .lats) (s .outs) (s .gs) =
+        known-all (s .ins) (s .lats) (s .outs) (s .gs) (s .rightI) (s .rightL) (s .rightO) (s .rightG) in
+        let late : lateLiterals h all ≡ map (λ fs. getD fs 1 0) (s .lats) ++ map (λ fs. getD fs 0 0) (s .outs) =
+        late-all (s .ins) (s .lats) (s .outs) (s .gs) (s .rightI) (s .rightL) (s .rightO) (s .rightG) in
         let takes : lateStage h (bodyL (s .ins) (s .lats)) (bodyO (s .ins) (s .lats) (s .outs)) (bodyG (s .ins) (s .lats) (s .outs) (s .gs)) ≡ taken tt =
         used-known (byG (s .ins) (s .lats) (s .outs) (s .gs)) (2 + h .inputs) (map (λ fs. getD fs 1 0) (s .lats) ++ map (λ fs. getD fs 0 0) (s .outs))
-        (subst (λ (d : List ℕ). All (Known d) (map (λ fs. getD fs 1 0) (s .lats) ++ map (λ fs. getD fs 0 0) (s .outs))) known (subst (λ (l : List ℕ). All (Known (definedByAll (kinds h) all)) l) late v))
+        (subst (λ (d : List ℕ). All (Known d) (map (λ fs. getD fs 1 0) (s .lats) ++ map (λ fs. getD fs 0 0) (s .outs))) known
+        (subst (λ (l : List ℕ). All (Known (definedByAll (kinds h) all)) l) late v))
         in
-        let refuses : symbolStage h (bodyG (s .ins) (s .lats) (s .outs) (s .gs)) ≡ refused number place = broken-symbols h (3 + h .inputs + h .latches + h .gates) [] restG number place (subst (λ (ls : List (List ℕ)). NoSymbol h (3 + h .inputs + h .latches + h .gates) [] ls number place) rest-all n) in
-        rw (takes-inputs (s .ins) (s .rightI), takes-latches (s .ins) (s .lats) (s .rightL), takes-output (s .ins) (s .lats) (s .outs) (s .rightO), takes-gates (s .ins) (s .lats) (s .outs) (s .gs) (s .rightG), takes, refuses)
+        let refuses : symbolStage h (bodyG (s .ins) (s .lats) (s .outs) (s .gs)) ≡ refused number place =
+        broken-symbols h (3 + h .inputs + h .latches + h .gates) [] restG number place
+        (subst (λ (ls : List (List ℕ)). NoSymbol h (3 + h .inputs + h .latches + h .gates) [] ls number place) rest-all n) in
+        rw (
+          takes-inputs (s .ins) (s .rightI),
+          takes-latches (s .ins) (s .lats) (s .rightL),
+          takes-output (s .ins) (s .lats) (s .outs) (s .rightO),
+          takes-gates (s .ins) (s .lats) (s .outs) (s .gs) (s .rightG),
+          takes,
+          refuses,
+        )
 
     pub broken-lines : BodyBroken h rest number place → linesRead h rest ≡ refused number place
     broken-lines (inLines f) = first-lines (where-first (h .largest) anInput latchKinds number place (h .inputs) 2 [] rest f)

@@ -33,7 +33,10 @@ use Rattle.text.proofs.laws.SymbolRule.{symbols-good}
 use Rattle.text.proofs.laws.Used.{used-known}
 
 -- a section of items that define, none of its lines at fault
-section-items : {A : Type 0} (rule : Rule) (c : ℕ) (row : A → List ℕ) (own : A → ℕ) (xs : List A) (place : ℕ) (defined : List ℕ) (rest : List (List ℕ)) → rule .count ≡ suc c → rule .defines ≡ true → ((x : A) → getD (row x) 0 0 ≡ own x) → AllFine rule defined (map row xs) → section rule (length xs) place (record { rows = []; defined = defined; rest = map numberLine (map row xs) ++ rest }) ≡ taken (record { rows = map row xs; defined = defined ++ map (λ x. variable (own x)) xs; rest = rest })
+section-items : {A : Type 0} (rule : Rule) (c : ℕ) (row : A → List ℕ) (own : A → ℕ) (xs : List A) (place : ℕ) (defined : List ℕ) (rest : List (List ℕ))
+    → rule .count ≡ suc c → rule .defines ≡ true → ((x : A) → getD (row x) 0 0 ≡ own x) → AllFine rule defined (map row xs)
+    → section rule (length xs) place (record { rows = []; defined = defined; rest = map numberLine (map row xs) ++ rest }) ≡ taken
+    (record { rows = map row xs; defined = defined ++ map (λ x. variable (own x)) xs; rest = rest })
 section-items rule c row own xs place defined rest e d o f =
     ap (λ (n : ℕ). section rule n place (record { rows = []; defined = defined; rest = map numberLine (map row xs) ++ rest })) (sym (length-map xs row))
     ∙ section-fine rule c (map row xs) place [] defined rest e f
@@ -63,41 +66,57 @@ abbrev Differ : ℕ → ℕ → Type 0
 Differ v u = v ≢ u
 
 module _ (limits : Limits) (f : TextFile) (w : WellFormed limits f) where
-  inputs-taken : section (inputRule (f .largest)) (length (f .inputs)) 2 (record { rows = []; defined = []; rest = bodyLines f (lines (behindText f)) }) ≡ taken (record { rows = map inputRow (f .inputs); defined = map variable (f .inputs); rest = afterInputs f })
+  inputs-taken : section (inputRule (f .largest)) (length (f .inputs)) 2
+      (record { rows = []; defined = []; rest = bodyLines f (lines (behindText f)) }) ≡ taken
+      (record { rows = map inputRow (f .inputs); defined = map variable (f .inputs); rest = afterInputs f })
   unfolding inputRule
   inputs-taken =
       section-items (inputRule (f .largest)) 0 inputRow (λ x. x) (f .inputs) 2 [] (afterInputs f) refl refl (λ x. refl)
       (inputs-fine (f .largest) [] (f .inputs) (w .digits) (w .inputs)
-      (pairs-fresh Differ [] (map variable (f .inputs)) (pairs-left Differ (map variable (f .inputs)) (ofLatches f) (pairs-left Differ (ofInputsAndLatches f) (ofGates f) (w .once)))))
+      (pairs-fresh Differ [] (map variable (f .inputs)) (pairs-left Differ (map variable (f .inputs)) (ofLatches f)
+      (pairs-left Differ (ofInputsAndLatches f) (ofGates f) (w .once)))))
 
-  latches-taken : section (latchRule (f .largest)) (length (f .latches)) (2 + length (f .inputs)) (record { rows = []; defined = map variable (f .inputs); rest = afterInputs f }) ≡ taken (record { rows = map latchRow (f .latches); defined = ofInputsAndLatches f; rest = afterLatches f })
+  latches-taken : section (latchRule (f .largest)) (length (f .latches)) (2 + length (f .inputs))
+      (record { rows = []; defined = map variable (f .inputs); rest = afterInputs f }) ≡ taken
+      (record { rows = map latchRow (f .latches); defined = ofInputsAndLatches f; rest = afterLatches f })
   unfolding latchRule
   latches-taken =
-      section-items (latchRule (f .largest)) 1 latchRow (λ l. l .own) (f .latches) (2 + length (f .inputs)) (map variable (f .inputs)) (afterLatches f) refl refl (λ x. refl)
+      section-items (latchRule (f .largest)) 1 latchRow (λ l. l .own) (f .latches) (2 + length (f .inputs)) (map variable (f .inputs)) (afterLatches f)
+      refl refl (λ x. refl)
       (latches-fine (f .largest) (map variable (f .inputs)) (f .latches) (w .digits) (w .latches)
       (pairs-fresh Differ (map variable (f .inputs)) (ofLatches f) (pairs-left Differ (ofInputsAndLatches f) (ofGates f) (w .once))))
 
-  output-taken : section (outputRule (f .largest)) 1 (2 + length (f .inputs) + length (f .latches)) (record { rows = []; defined = ofInputsAndLatches f; rest = afterLatches f }) ≡ taken (record { rows = (f .output ∷ []) ∷ []; defined = ofInputsAndLatches f; rest = afterOutput f })
+  output-taken : section (outputRule (f .largest)) 1 (2 + length (f .inputs) + length (f .latches))
+      (record { rows = []; defined = ofInputsAndLatches f; rest = afterLatches f }) ≡ taken
+      (record { rows = (f .output ∷ []) ∷ []; defined = ofInputsAndLatches f; rest = afterOutput f })
   unfolding outputRule
   output-taken =
-      section-fine (outputRule (f .largest)) 0 ((f .output ∷ []) ∷ []) (2 + length (f .inputs) + length (f .latches)) [] (ofInputsAndLatches f) (afterOutput f) refl (output-fine (f .largest) (ofInputsAndLatches f) (f .output) (w .digits) (w .output))
+      section-fine (outputRule (f .largest)) 0 ((f .output ∷ []) ∷ []) (2 + length (f .inputs) + length (f .latches)) [] (ofInputsAndLatches f)
+      (afterOutput f) refl (output-fine (f .largest) (ofInputsAndLatches f) (f .output) (w .digits) (w .output))
       ∙ λ x. taken (record { rows = (f .output ∷ []) ∷ []; defined = append-nil (ofInputsAndLatches f) x; rest = afterOutput f })
 
-  gates-taken : section (gateRule (f .largest)) (length (f .gates)) (3 + length (f .inputs) + length (f .latches)) (record { rows = []; defined = ofInputsAndLatches f; rest = afterOutput f }) ≡ taken (record { rows = map gateRow (f .gates); defined = definedIn f; rest = lines (behindText f) })
+  gates-taken : section (gateRule (f .largest)) (length (f .gates)) (3 + length (f .inputs) + length (f .latches))
+      (record { rows = []; defined = ofInputsAndLatches f; rest = afterOutput f }) ≡ taken
+      (record { rows = map gateRow (f .gates); defined = definedIn f; rest = lines (behindText f) })
   unfolding gateRule
   gates-taken =
-      section-items (gateRule (f .largest)) 2 gateRow (λ g. g .own) (f .gates) (3 + length (f .inputs) + length (f .latches)) (ofInputsAndLatches f) (lines (behindText f)) refl refl (λ x. refl)
-      (gates-fine (f .largest) (ofInputsAndLatches f) (f .gates) (w .digits) (w .gates) (pairs-fresh Differ (ofInputsAndLatches f) (ofGates f) (w .once)) (w .operands))
+      section-items (gateRule (f .largest)) 2 gateRow (λ g. g .own) (f .gates) (3 + length (f .inputs) + length (f .latches)) (ofInputsAndLatches f)
+      (lines (behindText f)) refl refl (λ x. refl)
+      (gates-fine (f .largest) (ofInputsAndLatches f) (f .gates) (w .digits) (w .gates)
+      (pairs-fresh Differ (ofInputsAndLatches f) (ofGates f) (w .once)) (w .operands))
 
   used-taken : used (definedIn f) (2 + length (f .inputs)) (map (λ fs. getD fs 1 0) (map latchRow (f .latches)) ++ (f .output ∷ [])) ≡ taken tt
   used-taken =
       used-known (definedIn f) (2 + length (f .inputs)) (map (λ fs. getD fs 1 0) (map latchRow (f .latches)) ++ (f .output ∷ []))
       (all-append (Known (definedIn f)) (map (λ fs. getD fs 1 0) (map latchRow (f .latches))) (f .output ∷ [])
-      (all-map (Known (definedIn f)) (λ (fs : List ℕ). getD fs 1 0) (map latchRow (f .latches)) (all-map (λ (fs : List ℕ). Known (definedIn f) (getD fs 1 0)) latchRow (f .latches) (w .nexts)))
+      (all-map (Known (definedIn f)) (λ (fs : List ℕ). getD fs 1 0) (map latchRow (f .latches))
+      (all-map (λ (fs : List ℕ). Known (definedIn f) (getD fs 1 0)) latchRow (f .latches) (w .nexts)))
       (w .error, tt))
 
-  symbols-taken : symbolLines (headerFor f) (3 + length (f .inputs) + length (f .latches) + length (f .gates)) [] (lines (behindText f)) ≡ taken (record { symbols = f .symbols; comment = f .comment })
-  symbols-taken = symbol-lines-good (headerFor f) (f .symbols) (3 + length (f .inputs) + length (f .latches) + length (f .gates)) [] (f .comment) (symbols-good f [] (f .symbols) (w .room) (w .digits) (w .symbols) (pairs-fresh Apart [] (f .symbols) (w .apart)))
+  symbols-taken : symbolLines (headerFor f) (3 + length (f .inputs) + length (f .latches) + length (f .gates)) [] (lines (behindText f)) ≡ taken
+      (record { symbols = f .symbols; comment = f .comment })
+  symbols-taken = symbol-lines-good (headerFor f) (f .symbols) (3 + length (f .inputs) + length (f .latches) + length (f .gates)) [] (f .comment)
+      (symbols-good f [] (f .symbols) (w .room) (w .digits) (w .symbols) (pairs-fresh Apart [] (f .symbols) (w .apart)))
 
   lines-taken : linesRead (headerFor f) (bodyLines f (lines (behindText f))) ≡ taken f
   unfolding linesRead onward latchOf gateOf
@@ -115,7 +134,13 @@ module _ (limits : Limits) (f : TextFile) (w : WellFormed limits f) where
       }))
 
   header-below : AllBelow (10 ^ 7) (rowOf (headerFor f))
-  header-below = (omega (arith, w .digits), (omega (arith, w .digits, w .room), (omega (arith, w .digits, w .room), (omega arith, (omega (arith, w .digits, w .room), tt)))))
+  header-below = (
+    omega (arith, w .digits),
+    (
+      omega (arith, w .digits, w .room),
+      (omega (arith, w .digits, w .room), (omega arith, (omega (arith, w .digits, w .room), tt))),
+    ),
+  )
 
   header-within : limits .outputs ≡ 1 → Within limits (headerFor f)
   header-within one = record { largest = w .largest; inputs = w .inputCount; latches = w .latchCount; outputs = sym one; room = w .room }
@@ -123,4 +148,9 @@ module _ (limits : Limits) (f : TextFile) (w : WellFormed limits f) where
   pub complete : limits .outputs ≡ 1 → fileRead limits (textOf f) ≡ taken f
   unfolding fileRead refuseIf orBadHeader headerOf
   complete one =
-      rw (le-ltb (limits .file) (length (textOf f)) (w .file), lines-text f, header-numbers (headerFor f) header-below, within-of limits (headerFor f) (header-within one)) lines-taken
+      rw (
+        le-ltb (limits .file) (length (textOf f)) (w .file),
+        lines-text f,
+        header-numbers (headerFor f) header-below,
+        within-of limits (headerFor f) (header-within one),
+      ) lines-taken

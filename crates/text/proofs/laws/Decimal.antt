@@ -21,7 +21,11 @@ within-more fuel n h = rw (le-ltb n 10 h)
 enough-fuel : (f g n : ℕ) → n < f → n < g → decimalWithin f n ≡ decimalWithin g n
 enough-fuel zero g n a b = absurd (not-suc-le-zero a)
 enough-fuel (suc f) zero n a b = absurd (not-suc-le-zero b)
-enough-fuel (suc f) (suc g) n a b = elim (decLt n 10) [ yes s ↦ within-small f n s ∙ sym (within-small g n s) | no m ↦ within-more f n (omega arith) ∙ ap (λ (ds : List ℕ). ds ++ ((48 + n % 10) ∷ [])) (enough-fuel f g (n / 10) (omega arith) (omega arith)) ∙ sym (within-more g n (omega arith)) ]
+enough-fuel (suc f) (suc g) n a b = elim (decLt n 10) [
+  | yes s ↦ within-small f n s ∙ sym (within-small g n s)
+  | no m ↦ within-more f n (omega arith)
+      ∙ ap (λ (ds : List ℕ). ds ++ ((48 + n % 10) ∷ [])) (enough-fuel f g (n / 10) (omega arith) (omega arith)) ∙ sym (within-more g n (omega arith))
+]
 
 pub decimal-small : (n : ℕ) → n < 10 → decimal n ≡ (48 + n) ∷ []
 unfolding decimal
@@ -40,4 +44,7 @@ length-decimal-more n h = ap length (decimal-more n h) ∙ length-append (decima
 -- a number below 10 ^ suc k has at most suc k digits
 pub length-decimal-most : (k n : ℕ) → n < 10 ^ suc k → length (decimal n) ≤ suc k
 length-decimal-most zero n h = omega (arith, length-decimal-small n h)
-length-decimal-most (suc k) n h = elim (decLt n 10) [ yes s ↦ omega (arith, length-decimal-small n s) | no m ↦ omega (arith, length-decimal-more n (omega arith), length-decimal-most k (n / 10) (omega (arith, pow-suc 10 (suc k)))) ]
+length-decimal-most (suc k) n h = elim (decLt n 10) [
+  | yes s ↦ omega (arith, length-decimal-small n s)
+  | no m ↦ omega (arith, length-decimal-more n (omega arith), length-decimal-most k (n / 10) (omega (arith, pow-suc 10 (suc k))))
+]

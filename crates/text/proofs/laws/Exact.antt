@@ -85,7 +85,8 @@ module _ (limits : Limits) (bytes : List ℕ) where
   unfolding fileRead refuseIf orBadHeader headerOf
   begun-read h b = rw (le-ltb (limits .file) (length bytes) (b .short), headed-read bytes h (b .headed), within-of limits h (b .within))
 
-  body-refused : (h : Header) (number place : ℕ) → Begun limits bytes h → BodyBroken h (drop 1 (lines bytes)) number place → circuitRead limits bytes ≡ refused number place
+  body-refused : (h : Header) (number place : ℕ) → Begun limits bytes h → BodyBroken h (drop 1 (lines bytes)) number place
+      → circuitRead limits bytes ≡ refused number place
   unfolding circuitRead
   body-refused h number place b k = rw (begun-read h b, broken-lines h (drop 1 (lines bytes)) number place k)
 
@@ -181,7 +182,8 @@ module _ (limits : Limits) (bytes : List ℕ) where
       by (fourToEight h b k) = absurd (omega (arith, body-range h (drop 1 (lines bytes)) badHeader place k .0))
       by (nine n p f e t) = absurd (omega (arith, n))
 
-  pub three-exactly : (place : ℕ) → (circuitRead limits bytes ≡ refused headerLimit place) ↔ ((h : Header) × (length bytes ≤ limits .file) × Headed bytes h × (Within limits h → ⊥) × (place ≡ 1))
+  pub three-exactly : (place : ℕ) → (circuitRead limits bytes ≡ refused headerLimit place) ↔
+      ((h : Header) × (length bytes ≤ limits .file) × Headed bytes h × (Within limits h → ⊥) × (place ≡ 1))
   three-exactly place = (λ e. by (refused-row headerLimit place e), λ t. row-refused headerLimit place (three refl (t .4) (t .1) (t .0) (t .2) (t .3)))
     where
       by : Row limits bytes headerLimit place → (h : Header) × (length bytes ≤ limits .file) × Headed bytes h × (Within limits h → ⊥) × (place ≡ 1)
@@ -191,7 +193,8 @@ module _ (limits : Limits) (bytes : List ℕ) where
       by (fourToEight h b k) = absurd (omega (arith, body-range h (drop 1 (lines bytes)) headerLimit place k .0))
       by (nine n p f e t) = absurd (omega (arith, n))
 
-  pub four-to-eight-exactly : (number place : ℕ) → 4 ≤ number → number ≤ 8 → (circuitRead limits bytes ≡ refused number place) ↔ ((h : Header) × Begun limits bytes h × BodyBroken h (drop 1 (lines bytes)) number place)
+  pub four-to-eight-exactly : (number place : ℕ) → 4 ≤ number → number ≤ 8
+      → (circuitRead limits bytes ≡ refused number place) ↔ ((h : Header) × Begun limits bytes h × BodyBroken h (drop 1 (lines bytes)) number place)
   four-to-eight-exactly number place low high = (λ e. by (refused-row number place e), λ t. row-refused number place (fourToEight (t .0) (t .1) (t .2)))
     where
       by : Row limits bytes number place → (h : Header) × Begun limits bytes h × BodyBroken h (drop 1 (lines bytes)) number place
@@ -205,22 +208,27 @@ module _ (limits : Limits) (bytes : List ℕ) where
   body = drop 1 (lines bytes)
 
   -- 4, 5 and 6 are given for the first line at fault; 7 for that too, or for the first next state or output; 8 for the first bad symbol line
-  in-lines : (number place : ℕ) → (number ≡ notDefined → ⊥) → (number ≡ badSymbol → ⊥) → 4 ≤ number → number ≤ 8 → (circuitRead limits bytes ≡ refused number place) ↔ ((h : Header) × Begun limits bytes h × FirstFault (h .largest) (kinds h) [] body 2 number place)
+  in-lines : (number place : ℕ) → (number ≡ notDefined → ⊥) → (number ≡ badSymbol → ⊥) → 4 ≤ number → number ≤ 8
+      → (circuitRead limits bytes ≡ refused number place) ↔ ((h : Header) × Begun limits bytes h × FirstFault (h .largest) (kinds h) [] body 2 number place)
   in-lines number place seven eight low high =
       (λ e. by (four-to-eight-exactly number place low high .0 e), λ t. four-to-eight-exactly number place low high .1 (t .0, t .1, inLines (t .2)))
     where
-      by : (h : Header) × Begun limits bytes h × BodyBroken h body number place → (h : Header) × Begun limits bytes h × FirstFault (h .largest) (kinds h) [] body 2 number place
+      by : (h : Header) × Begun limits bytes h × BodyBroken h body number place → (h : Header) × Begun limits bytes h
+          × FirstFault (h .largest) (kinds h) [] body 2 number place
       by (h, b, inLines f) = (h, b, f)
       by (h, b, inUse rows w u) = absurd (seven (u .seven))
       by (h, b, inSymbols rows w k n) = absurd (eight (n .eight))
 
-  pub four-exactly : (place : ℕ) → (circuitRead limits bytes ≡ refused badLine place) ↔ ((h : Header) × Begun limits bytes h × FirstFault (h .largest) (kinds h) [] body 2 badLine place)
+  pub four-exactly : (place : ℕ) → (circuitRead limits bytes ≡ refused badLine place) ↔
+      ((h : Header) × Begun limits bytes h × FirstFault (h .largest) (kinds h) [] body 2 badLine place)
   four-exactly place = in-lines badLine place (λ e. omega (arith, e)) (λ e. omega (arith, e)) (omega arith) (omega arith)
 
-  pub five-exactly : (place : ℕ) → (circuitRead limits bytes ≡ refused badLiteral place) ↔ ((h : Header) × Begun limits bytes h × FirstFault (h .largest) (kinds h) [] body 2 badLiteral place)
+  pub five-exactly : (place : ℕ) → (circuitRead limits bytes ≡ refused badLiteral place) ↔
+      ((h : Header) × Begun limits bytes h × FirstFault (h .largest) (kinds h) [] body 2 badLiteral place)
   five-exactly place = in-lines badLiteral place (λ e. omega (arith, e)) (λ e. omega (arith, e)) (omega arith) (omega arith)
 
-  pub six-exactly : (place : ℕ) → (circuitRead limits bytes ≡ refused definedTwice place) ↔ ((h : Header) × Begun limits bytes h × FirstFault (h .largest) (kinds h) [] body 2 definedTwice place)
+  pub six-exactly : (place : ℕ) → (circuitRead limits bytes ≡ refused definedTwice place) ↔
+      ((h : Header) × Begun limits bytes h × FirstFault (h .largest) (kinds h) [] body 2 definedTwice place)
   six-exactly place = in-lines definedTwice place (λ e. omega (arith, e)) (λ e. omega (arith, e)) (omega arith) (omega arith)
 
   -- the late 7 of lines that are right
@@ -229,10 +237,15 @@ module _ (limits : Limits) (bytes : List ℕ) where
     pub right : AllRight (h .largest) (kinds h) [] body rows
     pub unknown : Unknown (definedByAll (kinds h) rows) (2 + h .inputs) (lateLiterals h rows) notDefined place
 
-  pub seven-exactly : (place : ℕ) → (circuitRead limits bytes ≡ refused notDefined place) ↔ ((h : Header) × Begun limits bytes h × (FirstFault (h .largest) (kinds h) [] body 2 notDefined place ⊎ Late h place))
-  seven-exactly place = (λ e. by (four-to-eight-exactly notDefined place (omega arith) (omega arith) .0 e), λ t. four-to-eight-exactly notDefined place (omega arith) (omega arith) .1 (t .0, t .1, back (t .0) (t .2)))
+  pub seven-exactly : (place : ℕ) → (circuitRead limits bytes ≡ refused notDefined place) ↔
+      ((h : Header) × Begun limits bytes h × (FirstFault (h .largest) (kinds h) [] body 2 notDefined place ⊎ Late h place))
+  seven-exactly place = (
+    λ e. by (four-to-eight-exactly notDefined place (omega arith) (omega arith) .0 e),
+    λ t. four-to-eight-exactly notDefined place (omega arith) (omega arith) .1 (t .0, t .1, back (t .0) (t .2)),
+  )
     where
-      by : (h : Header) × Begun limits bytes h × BodyBroken h body notDefined place → (h : Header) × Begun limits bytes h × (FirstFault (h .largest) (kinds h) [] body 2 notDefined place ⊎ Late h place)
+      by : (h : Header) × Begun limits bytes h × BodyBroken h body notDefined place → (h : Header) × Begun limits bytes h
+          × (FirstFault (h .largest) (kinds h) [] body 2 notDefined place ⊎ Late h place)
       by (h, b, inLines f) = (h, b, inl f)
       by (h, b, inUse rows w u) = (h, b, inr (record { rows = rows; right = w; unknown = u }))
       by (h, b, inSymbols rows w k n) = absurd (omega (arith, n .eight))
@@ -247,15 +260,21 @@ module _ (limits : Limits) (bytes : List ℕ) where
     pub right : AllRight (h .largest) (kinds h) [] body rows
     pub known : All (Known (definedByAll (kinds h) rows)) (lateLiterals h rows)
 
-  pub eight-exactly : (place : ℕ) → (circuitRead limits bytes ≡ refused badSymbol place) ↔ ((h : Header) × Begun limits bytes h × Settled h × NoSymbol h (3 + h .inputs + h .latches + h .gates) [] (drop (length (kinds h)) body) badSymbol place)
-  eight-exactly place = (λ e. by (four-to-eight-exactly badSymbol place (omega arith) (omega arith) .0 e), λ t. four-to-eight-exactly badSymbol place (omega arith) (omega arith) .1 (t .0, t .1, inSymbols (t .2 .rows) (t .2 .right) (t .2 .known) (t .3)))
+  pub eight-exactly : (place : ℕ) → (circuitRead limits bytes ≡ refused badSymbol place) ↔
+      ((h : Header) × Begun limits bytes h × Settled h × NoSymbol h (3 + h .inputs + h .latches + h .gates) [] (drop (length (kinds h)) body) badSymbol place)
+  eight-exactly place = (
+    λ e. by (four-to-eight-exactly badSymbol place (omega arith) (omega arith) .0 e),
+    λ t. four-to-eight-exactly badSymbol place (omega arith) (omega arith) .1 (t .0, t .1, inSymbols (t .2 .rows) (t .2 .right) (t .2 .known) (t .3)),
+  )
     where
-      by : (h : Header) × Begun limits bytes h × BodyBroken h body badSymbol place → (h : Header) × Begun limits bytes h × Settled h × NoSymbol h (3 + h .inputs + h .latches + h .gates) [] (drop (length (kinds h)) body) badSymbol place
+      by : (h : Header) × Begun limits bytes h × BodyBroken h body badSymbol place → (h : Header) × Begun limits bytes h × Settled h
+          × NoSymbol h (3 + h .inputs + h .latches + h .gates) [] (drop (length (kinds h)) body) badSymbol place
       by (h, b, inLines f) = absurd (omega (arith, first-range (h .largest) (kinds h) [] body 2 badSymbol place f .1))
       by (h, b, inUse rows w u) = absurd (omega (arith, u .seven))
       by (h, b, inSymbols rows w k n) = (h, b, record { rows = rows; right = w; known = k }, n)
 
-  pub nine-exactly : (place : ℕ) → (circuitRead limits bytes ≡ refused tooManyInputs place) ↔ ((f : TextFile) × (fileRead limits bytes ≡ taken f) × Crowded limits (circuitOf f) × (place ≡ 0))
+  pub nine-exactly : (place : ℕ) → (circuitRead limits bytes ≡ refused tooManyInputs place) ↔
+      ((f : TextFile) × (fileRead limits bytes ≡ taken f) × Crowded limits (circuitOf f) × (place ≡ 0))
   nine-exactly place = (λ e. by (refused-row tooManyInputs place e), λ t. row-refused tooManyInputs place (nine refl (t .3) (t .0) (t .1) (t .2)))
     where
       by : Row limits bytes tooManyInputs place → (f : TextFile) × (fileRead limits bytes ≡ taken f) × Crowded limits (circuitOf f) × (place ≡ 0)
@@ -266,13 +285,15 @@ module _ (limits : Limits) (bytes : List ℕ) where
       by (nine n p f e t) = (f, e, t, p)
 
   -- a circuit is read exactly if a file is taken whose circuit hasn't too many inputs of a sort
-  pub taken-circuit : (c : Circuit) → (circuitRead limits bytes ≡ taken c) ↔ ((f : TextFile) × (fileRead limits bytes ≡ taken f) × (tooMany limits (circuitOf f) ≡ false) × (circuitOf f ≡ c))
+  pub taken-circuit : (c : Circuit) → (circuitRead limits bytes ≡ taken c) ↔
+      ((f : TextFile) × (fileRead limits bytes ≡ taken f) × (tooMany limits (circuitOf f) ≡ false) × (circuitOf f ≡ c))
   taken-circuit c = (λ e. by e came, λ t. circuit-taken (t .0) (t .1) (t .2) ∙ λ x. taken (t .3 x))
     where
       never : (number place : ℕ) → circuitRead limits bytes ≡ refused number place → circuitRead limits bytes ≡ taken c → ⊥
       never number place r e = taken-is-not-refused number place c (sym e ∙ r)
 
-      by : circuitRead limits bytes ≡ taken c → Came → (f : TextFile) × (fileRead limits bytes ≡ taken f) × (tooMany limits (circuitOf f) ≡ false) × (circuitOf f ≡ c)
+      by : circuitRead limits bytes ≡ taken c → Came → (f : TextFile) × (fileRead limits bytes ≡ taken f) × (tooMany limits (circuitOf f) ≡ false)
+          × (circuitOf f ≡ c)
       by e (long a) = absurd (never fileTooLong 0 (too-long a) e)
       by e (headless a b) = absurd (never badHeader 1 (no-header a b) e)
       by e (limited a h t w) = absurd (never headerLimit 1 (past-limit a h t w) e)

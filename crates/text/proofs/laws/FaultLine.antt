@@ -18,7 +18,8 @@ pub record At (M : ℕ) (ls : List (List ℕ)) (at number place : ℕ) : Type 0 
   pub from : at ≤ place
   pub fault : LineFault M kind defined (getD ls (place - at) []) number
 
-pub first-at : (M : ℕ) (ks : List Kind) (defined : List ℕ) (ls : List (List ℕ)) (at number place : ℕ) → FirstFault M ks defined ls at number place → At M ls at number place
+pub first-at : (M : ℕ) (ks : List Kind) (defined : List ℕ) (ls : List (List ℕ)) (at number place : ℕ) → FirstFault M ks defined ls at number place
+    → At M ls at number place
 first-at M [] defined ls at number place w = absurd w
 first-at M (k ∷ ks) defined ls at number place (inl (p, f)) =
     let here : 0 ≡ place - at = omega (arith, p) in
@@ -26,5 +27,12 @@ first-at M (k ∷ ks) defined ls at number place (inl (p, f)) =
 first-at M (k ∷ ks) defined ls at number place (inr (fs, r, more)) =
     let below : At M (drop 1 ls) (suc at) number place = first-at M ks (defined ++ definedBy k fs) (drop 1 ls) (suc at) number place more in
     let from : suc at ≤ place = below .from in
-    let there : getD (drop 1 ls) (place - suc at) [] ≡ getD ls (place - at) [] = getD-drop 1 ls (place - suc at) [] ∙ ap (λ (i : ℕ). getD ls i []) (omega (arith, from)) in
-    record { kind = below .kind; defined = below .defined; from = omega (arith, from); fault = subst (λ (l : List ℕ). LineFault M (below .kind) (below .defined) l number) there (below .fault) }
+    let there : getD (drop 1 ls) (place - suc at) [] ≡ getD ls (place - at) [] =
+    getD-drop 1 ls (place - suc at) [] ∙ ap (λ (i : ℕ). getD ls i []) (omega (arith, from)) in
+    record {
+      kind = below .kind;
+      defined = below .defined;
+      from = omega (arith, from);
+      fault =
+          subst (λ (l : List ℕ). LineFault M (below .kind) (below .defined) l number) there (below .fault);
+    }

@@ -42,7 +42,8 @@ module _ (f : TextFile) (w : WellFormed base f) where
   owns = map-table (λ (i : Input). i .own) inputAt (length (f .inputs)) ∙ table-getD (f .inputs) 0
 
   inputs-most : (i : ℕ) → getD (f .inputs) i 0 ≤ 2 * base .variable + 1
-  inputs-most = most-at (2 * base .variable + 1) (f .inputs) (all-weaker (Defining (f .largest)) (λ m. m ≤ 2 * base .variable + 1) (λ x p. omega (arith, p .most, w .largest)) (f .inputs) (w .inputs))
+  inputs-most = most-at (2 * base .variable + 1) (f .inputs) (all-weaker (Defining (f .largest)) (λ m. m ≤ 2 * base .variable + 1)
+      (λ x p. omega (arith, p .most, w .largest)) (f .inputs) (w .inputs))
 
   few : length (circuitOf f .inputs) ≡ length (f .inputs)
   unfolding circuitOf inputAt
@@ -56,12 +57,17 @@ module _ (f : TextFile) (w : WellFormed base f) where
         latches = w .latchCount;
         gates = omega (arith, w .room, w .largest);
         input = λ i. subst (λ (l : List ℕ). getD l i 0 ≤ 2 * base .variable + 1) (sym owns) (inputs-most i);
-        latch = most-of (LatchLine (f .largest)) (λ (l : Latch). l .own) (2 * base .variable + 1) (λ x p. omega (arith, p .own .most, w .largest)) (f .latches) (w .latches);
-        next = most-of (LatchLine (f .largest)) (λ (l : Latch). l .next) (2 * base .variable + 1) (λ x p. omega (arith, p .next, w .largest)) (f .latches) (w .latches);
+        latch = most-of (LatchLine (f .largest)) (λ (l : Latch). l .own) (2 * base .variable + 1) (λ x p. omega (arith, p .own .most, w .largest))
+            (f .latches) (w .latches);
+        next = most-of (LatchLine (f .largest)) (λ (l : Latch). l .next) (2 * base .variable + 1) (λ x p. omega (arith, p .next, w .largest))
+            (f .latches) (w .latches);
         output = omega (arith, w .output, w .largest);
-        gate = most-of (GateLine (f .largest)) (λ (g : Gate). g .own) (2 * base .variable + 1) (λ x p. omega (arith, p .own .most, w .largest)) (f .gates) (w .gates);
-        left = most-of (GateLine (f .largest)) (λ (g : Gate). g .left) (2 * base .variable + 1) (λ x p. omega (arith, p .left, w .largest)) (f .gates) (w .gates);
-        right = most-of (GateLine (f .largest)) (λ (g : Gate). g .right) (2 * base .variable + 1) (λ x p. omega (arith, p .right, w .largest)) (f .gates) (w .gates);
+        gate = most-of (GateLine (f .largest)) (λ (g : Gate). g .own) (2 * base .variable + 1) (λ x p. omega (arith, p .own .most, w .largest))
+            (f .gates) (w .gates);
+        left = most-of (GateLine (f .largest)) (λ (g : Gate). g .left) (2 * base .variable + 1) (λ x p. omega (arith, p .left, w .largest)) (f .gates)
+            (w .gates);
+        right = most-of (GateLine (f .largest)) (λ (g : Gate). g .right) (2 * base .variable + 1) (λ x p. omega (arith, p .right, w .largest))
+            (f .gates) (w .gates);
       }
 
 -- what is stored of a circuit that was read stands for it

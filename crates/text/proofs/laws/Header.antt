@@ -68,7 +68,11 @@ first-line line fs e = by (startsWith word line) refl
     by true s =
         let i : LineIs 5 (drop 4 line) fs = numbers-is 4 (drop 4 line) fs (rw s at e) in
         let row : fs ≡ rowOf (headerOf fs) = five fs (i .count) in
-        record { text = starts-with-splits word line s ∙ ap {B = List ℕ} (λ x. word ++ x) (i .text ∙ ap numberLine row); below = subst (AllBelow (10 ^ 7)) row (i .below) }
+        record {
+          text = starts-with-splits word line s ∙ ap {B = List ℕ} (λ x. word ++ x) (i .text ∙ ap numberLine row);
+          below =
+              subst (AllBelow (10 ^ 7)) row (i .below);
+        }
     by false s = absurd (none-is-not-some fs (rw s at e))
 
 pub first-and-rest : (ls : List (List ℕ)) → flatMap (λ l. l) ls ≡ getD ls 0 [] ++ flatMap (λ l. l) (drop 1 ls)
@@ -108,9 +112,22 @@ within-is limits h e =
     let (e3, outputs) = both-true (a && b && c) d e4 in
     let (e2, latches) = both-true (a && b) c e3 in
     let (largest, inputs) = both-true a b e2 in
-    record { largest = leb-true _ _ largest; inputs = leb-true _ _ inputs; latches = leb-true _ _ latches; outputs = eqb-true _ _ outputs; room = leb-true _ _ room }
+    record {
+      largest = leb-true _ _ largest;
+      inputs = leb-true _ _ inputs;
+      latches = leb-true _ _ latches;
+      outputs = eqb-true _ _ outputs;
+      room =
+          leb-true _ _ room;
+    }
 
 pub within-of : (limits : Limits) (h : Header) → Within limits h → withinLimits limits h ≡ true
 unfolding withinLimits
 within-of limits h w =
-    rw (le-leb (h .largest) (limits .variable) (w .largest), le-leb (h .inputs) (limits .inputs) (w .inputs), le-leb (h .latches) (limits .latches) (w .latches), eq-eqb (h .outputs) (limits .outputs) (w .outputs), le-leb (h .inputs + h .latches + h .gates) (h .largest) (w .room))
+    rw (
+      le-leb (h .largest) (limits .variable) (w .largest),
+      le-leb (h .inputs) (limits .inputs) (w .inputs),
+      le-leb (h .latches) (limits .latches) (w .latches),
+      eq-eqb (h .outputs) (limits .outputs) (w .outputs),
+      le-leb (h .inputs + h .latches + h .gates) (h .largest) (w .room),
+    )

@@ -103,7 +103,8 @@ first : (p : ℕ) (ps t fs : List ℕ) → fields (p ∷ ps) t ≡ some fs → F
 unfolding fields prepend
 first p ps t fs e = by (number t) refl
   where
-    behind : (v : ℕ) (rest : List ℕ) → number t ≡ is v rest → getD rest 0 0 ≡ p → (o : Option (List ℕ)) → fields ps (drop 1 rest) ≡ o → prepend v o ≡ some fs → First p ps t fs
+    behind : (v : ℕ) (rest : List ℕ) → number t ≡ is v rest → getD rest 0 0 ≡ p → (o : Option (List ℕ)) → fields ps (drop 1 rest) ≡ o
+        → prepend v o ≡ some fs → First p ps t fs
     behind v rest f g none h k = absurd (none-is-not-some fs k)
     behind v rest f g (some more) h k = record { value = v; rest = rest; more = more; read = f; next = g; others = h; all = cc }
 
@@ -130,7 +131,8 @@ last-number v t rest more i r d m =
     let text : t ≡ decimal v ++ (10 ∷ []) = i .text ∙ ap {B = List ℕ} (λ x. decimal v ++ x) (r ∙ ap {B = List ℕ} (λ x. 10 ∷ x) d) in
     rw m (record { count = refl; text = text; below = (i .below, tt) })
 
-one-number-more : (n v : ℕ) (t rest more : List ℕ) → NumberIs t v rest → rest ≡ 32 ∷ drop 1 rest → LineIs (suc n) (drop 1 rest) more → LineIs (suc (suc n)) t (v ∷ more)
+one-number-more : (n v : ℕ) (t rest more : List ℕ) → NumberIs t v rest → rest ≡ 32 ∷ drop 1 rest → LineIs (suc n) (drop 1 rest) more
+    → LineIs (suc (suc n)) t (v ∷ more)
 unfolding numberLine
 one-number-more n v t rest [] i r l = absurd (omega (arith, l .count))
 one-number-more n v t rest (m ∷ ms) i r l =
@@ -148,4 +150,5 @@ numbers-is zero t fs e =
     rw (f .all) (last-number (f .value) t (f .rest) (f .more) (number-is t (f .value) (f .rest) (f .read)) (starts 10 (f .rest) (f .next) (omega arith)) d m)
 numbers-is (suc n) t fs e =
     let f : First 32 (separators (suc n)) t fs = first 32 (separators (suc n)) t fs e in
-    rw (f .all) (one-number-more n (f .value) t (f .rest) (f .more) (number-is t (f .value) (f .rest) (f .read)) (starts 32 (f .rest) (f .next) (omega arith)) (numbers-is n (drop 1 (f .rest)) (f .more) (f .others)))
+    rw (f .all) (one-number-more n (f .value) t (f .rest) (f .more) (number-is t (f .value) (f .rest) (f .read))
+    (starts 32 (f .rest) (f .next) (omega arith)) (numbers-is n (drop 1 (f .rest)) (f .more) (f .others)))

@@ -228,7 +228,8 @@ verdict place fs false true d = refused definedTwice place
 verdict place fs false false true = refused notDefined place
 verdict place fs false false false = taken fs
 
-judged-by : (rule : Rule) (defined : List ℕ) (place : ℕ) (fs : List ℕ) (a b d : Bool) → rule .fault defined fs ≡ firstOf a b d → judged rule defined place (some fs) ≡ verdict place fs a b d
+judged-by : (rule : Rule) (defined : List ℕ) (place : ℕ) (fs : List ℕ) (a b d : Bool) → rule .fault defined fs ≡ firstOf a b d
+    → judged rule defined place (some fs) ≡ verdict place fs a b d
 unfolding judged firstOf
 judged-by rule defined place fs true b d e = rw (e, judged)
 judged-by rule defined place fs false true d e = rw (e, judged)
@@ -240,14 +241,16 @@ module _ (k : Kind) (M : ℕ) (defined line : List ℕ) where
   line-read : (fs : List ℕ) → LineIs (numbersIn k) line fs → numbersOf (ruleOf k M .count) line ≡ some fs
   line-read [] i = absurd (omega (arith, i .count, some-numbers k .1))
   line-read (n ∷ ns) i =
-      ap (numbersOf (ruleOf k M .count)) (i .text) ∙ ap (λ (m : ℕ). numbersOf m (numberLine (n ∷ ns))) (count-is k M ∙ sym (i .count)) ∙ numbers-line n ns (i .below)
+      ap (numbersOf (ruleOf k M .count)) (i .text) ∙ ap (λ (m : ℕ). numbersOf m (numberLine (n ∷ ns))) (count-is k M ∙ sym (i .count))
+      ∙ numbers-line n ns (i .below)
 
   read-line : (fs : List ℕ) → numbersOf (ruleOf k M .count) line ≡ some fs → LineIs (numbersIn k) line fs
   read-line fs e =
       let (c, is) = some-numbers k in
       subst (λ (m : ℕ). LineIs m line fs) (sym is) (numbers-is c line fs (ap (λ (m : ℕ). numbersOf m line) (sym (count-is k M ∙ is)) ∙ e))
 
-  judged-line : (place : ℕ) (fs : List ℕ) → LineIs (numbersIn k) line fs → lineJudged k M defined place line ≡ verdict place fs (fiveOf k M fs) (sixOf k defined fs) (sevenOf k defined fs)
+  judged-line : (place : ℕ) (fs : List ℕ) → LineIs (numbersIn k) line fs
+      → lineJudged k M defined place line ≡ verdict place fs (fiveOf k M fs) (sixOf k defined fs) (sevenOf k defined fs)
   judged-line place fs i = ap (judged (ruleOf k M) defined place) (line-read fs i) ∙ judged-by (ruleOf k M) defined place fs _ _ _ (fault-tests k M defined fs)
 
   malformed-refused : (place : ℕ) → Malformed (numbersIn k) line → lineJudged k M defined place line ≡ refused badLine place
@@ -278,15 +281,23 @@ module _ (k : Kind) (M : ℕ) (defined line : List ℕ) where
   told : (place : ℕ) → Told place (lineJudged k M defined place line)
   told place = by form
     where
-      with-tests : (fs : List ℕ) → LineIs (numbersIn k) line fs → (a b d : Bool) → (a ≡ true) ↔ BadLiteral M k fs → (b ≡ true) ↔ Twice k defined fs → (d ≡ true) ↔ UnknownOperand k defined fs → Told place (verdict place fs a b d)
+      with-tests : (fs : List ℕ) → LineIs (numbersIn k) line fs → (a b d : Bool) → (a ≡ true) ↔ BadLiteral M k fs → (b ≡ true) ↔ Twice k defined fs
+          → (d ≡ true) ↔ UnknownOperand k defined fs → Told place (verdict place fs a b d)
       with-tests fs i true b d p q r = (refl, five refl fs i (p .0 refl))
       with-tests fs i false true d p q r = (refl, six refl fs i (test-fails false p refl) (q .0 refl))
       with-tests fs i false false true p q r = (refl, seven refl fs i (test-fails false p refl) (test-fails false q refl) (r .0 refl))
-      with-tests fs i false false false p q r = record { is = i; literals = test-fails false p refl; once = test-fails false q refl; known = test-fails false r refl }
+      with-tests fs i false false false p q r = record {
+        is = i;
+        literals = test-fails false p refl;
+        once = test-fails false q refl;
+        known =
+            test-fails false r refl;
+      }
 
       by : Formed → Told place (lineJudged k M defined place line)
       by (not-formed m) = subst (Told place) (sym (malformed-refused place m)) (refl, four refl m)
-      by (formed fs i) = subst (Told place) (sym (judged-line place fs i)) (with-tests fs i _ _ _ (five-says k M fs (i .count)) (six-says k defined fs) (seven-says k defined fs))
+      by (formed fs i) = subst (Told place) (sym (judged-line place fs i))
+          (with-tests fs i _ _ _ (five-says k M fs (i .count)) (six-says k defined fs) (seven-says k defined fs))
 
   pub judged-fault : (place number at : ℕ) → lineJudged k M defined place line ≡ refused number at → (at ≡ place) × LineFault M k defined line number
   judged-fault place number at e = subst (Told place) e (told place)
@@ -301,11 +312,19 @@ module _ (k : Kind) (M : ℕ) (defined line : List ℕ) where
   fault-judged place number (six n fs i p q) =
       judged-line place fs i ∙ rw (fails-test (fiveOf k M fs) (five-says k M fs (i .count)) p, six-says k defined fs .1 q) (λ x. refused (sym n x) place)
   fault-judged place number (seven n fs i p q r) =
-      judged-line place fs i ∙ rw (fails-test (fiveOf k M fs) (five-says k M fs (i .count)) p, fails-test (sixOf k defined fs) (six-says k defined fs) q, seven-says k defined fs .1 r) (λ x. refused (sym n x) place)
+      judged-line place fs i ∙ rw (
+        fails-test (fiveOf k M fs) (five-says k M fs (i .count)) p,
+        fails-test (sixOf k defined fs) (six-says k defined fs) q,
+        seven-says k defined fs .1 r,
+      ) (λ x. refused (sym n x) place)
 
   pub right-judged : (place : ℕ) (fs : List ℕ) → LineRight M k defined line fs → lineJudged k M defined place line ≡ taken fs
   right-judged place fs w =
-      judged-line place fs (w .is) ∙ rw (fails-test (fiveOf k M fs) (five-says k M fs (w .is .count)) (w .literals), fails-test (sixOf k defined fs) (six-says k defined fs) (w .once), fails-test (sevenOf k defined fs) (seven-says k defined fs) (w .known))
+      judged-line place fs (w .is) ∙ rw (
+        fails-test (fiveOf k M fs) (five-says k M fs (w .is .count)) (w .literals),
+        fails-test (sixOf k defined fs) (six-says k defined fs) (w .once),
+        fails-test (sevenOf k defined fs) (seven-says k defined fs) (w .known),
+      )
 
 -- the numbers of these faults are 4 to 7
 pub fault-range : (M : ℕ) (k : Kind) (defined line : List ℕ) (number : ℕ) → LineFault M k defined line number → (4 ≤ number) × (number ≤ 7)

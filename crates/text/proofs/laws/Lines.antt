@@ -35,21 +35,29 @@ flat-rows row [] = refl
 flat-rows row (x ∷ xs) = ap {B = List ℕ} (λ t. numberLine (row x) ++ t) (flat-rows row xs)
 
 -- the text that is written, each section as lines of numbers
-pub text-by-rows : (f : TextFile) → textOf f ≡ headerLine f ++ (flatMap numberLine (map inputRow (f .inputs)) ++ (flatMap numberLine (map latchRow (f .latches)) ++ (numberLine (f .output ∷ []) ++ (flatMap numberLine (map gateRow (f .gates)) ++ behindText f))))
+pub text-by-rows : (f : TextFile) → textOf f ≡ headerLine f ++ (flatMap numberLine (map inputRow (f .inputs))
+    ++ (flatMap numberLine (map latchRow (f .latches)) ++ (numberLine (f .output ∷ []) ++ (flatMap numberLine (map gateRow (f .gates)) ++ behindText f))))
 unfolding textOf
 text-by-rows f =
-    regroup (headerLine f) (flatMap (λ x. numberLine (inputRow x)) (f .inputs)) (flatMap (λ x. numberLine (latchRow x)) (f .latches)) (numberLine (f .output ∷ [])) (flatMap (λ x. numberLine (gateRow x)) (f .gates)) (flatMap symbolLine (f .symbols)) (commentText (f .comment))
-    ∙ λ i. headerLine f ++ (flat-rows inputRow (f .inputs) i ++ (flat-rows latchRow (f .latches) i ++ (numberLine (f .output ∷ []) ++ (flat-rows gateRow (f .gates) i ++ behindText f))))
+    regroup (headerLine f) (flatMap (λ x. numberLine (inputRow x)) (f .inputs)) (flatMap (λ x. numberLine (latchRow x)) (f .latches))
+    (numberLine (f .output ∷ [])) (flatMap (λ x. numberLine (gateRow x)) (f .gates)) (flatMap symbolLine (f .symbols)) (commentText (f .comment))
+    ∙ λ i. headerLine f ++ (flat-rows inputRow (f .inputs) i ++ (flat-rows latchRow (f .latches) i
+    ++ (numberLine (f .output ∷ []) ++ (flat-rows gateRow (f .gates) i ++ behindText f))))
 
 pub lines-text : (f : TextFile) → lines (textOf f) ≡ headerLine f ∷ bodyLines f (lines (behindText f))
 unfolding flatMap
 lines-text f =
     ap lines (text-by-rows f)
-    ∙ lines-first (headerLine f) (flatMap numberLine is ++ (flatMap numberLine ls ++ (numberLine (f .output ∷ []) ++ (flatMap numberLine gs ++ behindText f)))) (header-is-line (headerFor f))
-    ∙ ap {B = List (List ℕ)} (λ r. headerLine f ∷ r) (lines-rows is (flatMap numberLine ls ++ (numberLine (f .output ∷ []) ++ (flatMap numberLine gs ++ behindText f))))
-    ∙ ap {B = List (List ℕ)} (λ r. headerLine f ∷ (map numberLine is ++ r)) (lines-rows ls (numberLine (f .output ∷ []) ++ (flatMap numberLine gs ++ behindText f)))
-    ∙ ap {B = List (List ℕ)} (λ r. headerLine f ∷ (map numberLine is ++ (map numberLine ls ++ r))) (lines-first (numberLine (f .output ∷ [])) (flatMap numberLine gs ++ behindText f) (number-line-is-line (f .output ∷ [])))
-    ∙ ap {B = List (List ℕ)} (λ r. headerLine f ∷ (map numberLine is ++ (map numberLine ls ++ (numberLine (f .output ∷ []) ∷ r)))) (lines-rows gs (behindText f))
+    ∙ lines-first (headerLine f) (flatMap numberLine is ++ (flatMap numberLine ls
+    ++ (numberLine (f .output ∷ []) ++ (flatMap numberLine gs ++ behindText f)))) (header-is-line (headerFor f))
+    ∙ ap {B = List (List ℕ)} (λ r. headerLine f ∷ r) (lines-rows is (flatMap numberLine ls
+    ++ (numberLine (f .output ∷ []) ++ (flatMap numberLine gs ++ behindText f))))
+    ∙ ap {B = List (List ℕ)} (λ r. headerLine f ∷ (map numberLine is ++ r))
+    (lines-rows ls (numberLine (f .output ∷ []) ++ (flatMap numberLine gs ++ behindText f)))
+    ∙ ap {B = List (List ℕ)} (λ r. headerLine f ∷ (map numberLine is ++ (map numberLine ls ++ r)))
+    (lines-first (numberLine (f .output ∷ [])) (flatMap numberLine gs ++ behindText f) (number-line-is-line (f .output ∷ [])))
+    ∙ ap {B = List (List ℕ)} (λ r. headerLine f ∷ (map numberLine is ++ (map numberLine ls ++ (numberLine (f .output ∷ []) ∷ r))))
+    (lines-rows gs (behindText f))
   where
     is : List (List ℕ)
     is = map inputRow (f .inputs)

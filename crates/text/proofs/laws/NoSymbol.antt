@@ -16,7 +16,20 @@ use Rattle.circuit.specs.Outcome.{Outcome, refused}
 use Rattle.text.specs.Header.{Header}
 use Rattle.text.specs.NoSymbol.{NoSymbol}
 use Rattle.text.specs.Numbers.{badSymbol}
-use Rattle.text.specs.Symbol.{Symbol, inputLetter, latchLetter, outputLetter, positions, isName, names, symbolOf, isComment, Symbols, orBadSymbol, symbolLines}
+use Rattle.text.specs.Symbol.{
+  Symbol,
+  inputLetter,
+  latchLetter,
+  outputLetter,
+  positions,
+  isName,
+  names,
+  symbolOf,
+  isComment,
+  Symbols,
+  orBadSymbol,
+  symbolLines,
+}
 use Rattle.text.specs.SymbolRight.{Positioned, ofInputs, ofLatches, ofOutputs, SymbolRight, SymbolsRight}
 use Rattle.text.specs.WellFormed.{Apart}
 use Rattle.text.specs.Written.{symbolLine}
@@ -51,7 +64,8 @@ right-good h seen s r =
       bytes = name-bytes (s .name) (r .bytes);
       long = rw (le-leb 1 (length (s .name)) (r .some), le-leb (length (s .name)) 200 (r .most));
       within = positioned-within h s (r .positioned);
-      fresh = none-among (names (s .letter) (s .position)) seen (all-weaker (λ t. Apart t s) (λ t. names (s .letter) (s .position) t ≡ false) (apart-fresh s) seen (r .apart));
+      fresh = none-among (names (s .letter) (s .position)) seen (all-weaker (λ t. Apart t s) (λ t. names (s .letter) (s .position) t ≡ false)
+          (apart-fresh s) seen (r .apart));
     }
 
 good-right : (h : Header) (seen : List Symbol) (s : Symbol) → Good h seen s → SymbolRight h seen s
@@ -64,7 +78,8 @@ good-right h seen s g =
       some = leb-true 1 (length (s .name)) a;
       most = leb-true (length (s .name)) 200 b;
       bytes = bytes-name (s .name) (g .bytes);
-      apart = all-weaker (λ t. names (s .letter) (s .position) t ≡ false) (λ t. Apart t s) (fresh-apart s) seen (among-none (names (s .letter) (s .position)) seen (g .fresh));
+      apart = all-weaker (λ t. names (s .letter) (s .position) t ≡ false) (λ t. Apart t s) (fresh-apart s) seen
+          (among-none (names (s .letter) (s .position)) seen (g .fresh));
     }
 
 -- a line is read as no symbol exactly if it is that of none which may stand there
@@ -91,7 +106,8 @@ unfolding isComment
 comment-no line e l = true≢false (sym (same-bytes-refl (ascii "c\n")) ∙ sym (ap (λ (b : List ℕ). sameBytes b (ascii "c\n")) l) ∙ e)
 
 -- the first such line
-one-symbol-more : (h : Header) (start : ℕ) (seen : List Symbol) (l : List ℕ) (ls : List (List ℕ)) (number place : ℕ) (s : Symbol) → SymbolRight h seen s → l ≡ symbolLine s → NoSymbol h (suc start) (seen ++ (s ∷ [])) ls number place → NoSymbol h start seen (l ∷ ls) number place
+one-symbol-more : (h : Header) (start : ℕ) (seen : List Symbol) (l : List ℕ) (ls : List (List ℕ)) (number place : ℕ) (s : Symbol)
+    → SymbolRight h seen s → l ≡ symbolLine s → NoSymbol h (suc start) (seen ++ (s ∷ [])) ls number place → NoSymbol h start seen (l ∷ ls) number place
 one-symbol-more h start seen l ls number place s r e k =
     record {
       before = s ∷ k .before;
@@ -105,12 +121,16 @@ one-symbol-more h start seen l ls number place s r e k =
       at = omega (arith, k .at);
     }
 
-pub symbols-broken : (h : Header) (start : ℕ) (seen : List Symbol) (ls : List (List ℕ)) (number place : ℕ) → symbolLines h start seen ls ≡ refused number place → NoSymbol h start seen ls number place
+pub symbols-broken : (h : Header) (start : ℕ) (seen : List Symbol) (ls : List (List ℕ)) (number place : ℕ)
+    → symbolLines h start seen ls ≡ refused number place → NoSymbol h start seen ls number place
 unfolding symbolLines orBadSymbol
 symbols-broken h start seen [] number place e = absurd (taken-is-not-refused number place (record { symbols = seen; comment = none }) e)
-symbols-broken h start seen (l ∷ ls) number place e = by (isComment l) (symbolOf h seen l) refl refl (λ s. symbols-broken h (suc start) (seen ++ (s ∷ [])) ls number place)
+symbols-broken h start seen (l ∷ ls) number place e = by (isComment l) (symbolOf h seen l) refl refl
+    (λ s. symbols-broken h (suc start) (seen ++ (s ∷ [])) ls number place)
   where
-    by : (u : Bool) (o : Option Symbol) → isComment l ≡ u → symbolOf h seen l ≡ o → ((s : Symbol) → symbolLines h (suc start) (seen ++ (s ∷ [])) ls ≡ refused number place → NoSymbol h (suc start) (seen ++ (s ∷ [])) ls number place) → NoSymbol h start seen (l ∷ ls) number place
+    by : (u : Bool) (o : Option Symbol) → isComment l ≡ u → symbolOf h seen l ≡ o
+        → ((s : Symbol) → symbolLines h (suc start) (seen ++ (s ∷ [])) ls ≡ refused number place
+        → NoSymbol h (suc start) (seen ++ (s ∷ [])) ls number place) → NoSymbol h start seen (l ∷ ls) number place
     by true o c f ih = absurd (taken-is-not-refused number place (record { symbols = seen; comment = some (flatMap (λ k. k) ls) }) (rw (c, symbolLines) at e))
     by false none c f ih =
         let same : _≡_ {A = Outcome Symbols} (refused badSymbol start) (refused number place) = (rw (c, symbolLines, f) at e) in
@@ -129,15 +149,21 @@ symbols-broken h start seen (l ∷ ls) number place e = by (isComment l) (symbol
         let (g, l-is) = symbol-of-is h seen l s f in
         one-symbol-more h start seen l ls number place s (good-right h seen s g) l-is (ih s (rw (c, symbolLines, f) at e))
 
-pub broken-symbols : (h : Header) (start : ℕ) (seen : List Symbol) (ls : List (List ℕ)) (number place : ℕ) → NoSymbol h start seen ls number place → symbolLines h start seen ls ≡ refused number place
+pub broken-symbols : (h : Header) (start : ℕ) (seen : List Symbol) (ls : List (List ℕ)) (number place : ℕ) → NoSymbol h start seen ls number place
+    → symbolLines h start seen ls ≡ refused number place
 unfolding symbolLines orBadSymbol
-broken-symbols h start seen ls number place k = ap (symbolLines h start seen) (k .lines) ∙ rw (k .eight) (go (k .before) start seen (k .right) (k .fault) (k .at))
+broken-symbols h start seen ls number place k = ap (symbolLines h start seen) (k .lines)
+    ∙ rw (k .eight) (go (k .before) start seen (k .right) (k .fault) (k .at))
   where
-    go : (ss : List Symbol) (s : ℕ) (known : List Symbol) → SymbolsRight h known ss → ((u : Symbol) → SymbolRight h (known ++ ss) u → k .line ≡ symbolLine u → ⊥) → place ≡ s + length ss → symbolLines h s known (map symbolLine ss ++ (k .line ∷ k .after)) ≡ refused badSymbol place
+    go : (ss : List Symbol) (s : ℕ) (known : List Symbol) → SymbolsRight h known ss
+        → ((u : Symbol) → SymbolRight h (known ++ ss) u → k .line ≡ symbolLine u → ⊥) → place ≡ s + length ss
+        → symbolLines h s known (map symbolLine ss ++ (k .line ∷ k .after)) ≡ refused badSymbol place
     go [] s known w f q =
         let here : s ≡ place = omega (arith, q) in
-        let none-is : symbolOf h known (k .line) ≡ none = symbol-none h known (k .line) (subst (λ (t : List Symbol). (u : Symbol) → SymbolRight h t u → k .line ≡ symbolLine u → ⊥) (append-nil known) f) in
+        let none-is : symbolOf h known (k .line) ≡ none = symbol-none h known (k .line)
+        (subst (λ (t : List Symbol). (u : Symbol) → SymbolRight h t u → k .line ≡ symbolLine u → ⊥) (append-nil known) f) in
         rw (no-comment (k .line) (k .other), symbolLines, none-is) (λ x. refused badSymbol (here x))
     go (t ∷ ss) s known w f q =
         rw (symbol-line-is-no-comment t, symbolLines, symbol-of-line h known t (right-good h known t (w .0)))
-        (go ss (suc s) (known ++ (t ∷ [])) (w .1) (subst (λ (l : List Symbol). (u : Symbol) → SymbolRight h l u → k .line ≡ symbolLine u → ⊥) (sym (append-assoc known (t ∷ []) ss)) f) (omega (arith, q)))
+        (go ss (suc s) (known ++ (t ∷ [])) (w .1) (subst (λ (l : List Symbol). (u : Symbol) → SymbolRight h l u → k .line ≡ symbolLine u → ⊥)
+        (sym (append-assoc known (t ∷ []) ss)) f) (omega (arith, q)))

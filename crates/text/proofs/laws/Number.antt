@@ -23,7 +23,8 @@ same-digits zero g n a b = absurd (not-suc-le-zero a)
 same-digits (suc f) zero n a b = absurd (not-suc-le-zero b)
 same-digits (suc f) (suc g) n a b = by (ltb n 10) refl (λ h k. same-digits f g (n / 10) h k)
   where
-    by : (t : Bool) → ltb n 10 ≡ t → (n / 10 < f → n / 10 < g → decimalWithin f (n / 10) ≡ decimalWithin g (n / 10)) → decimalWithin (suc f) n ≡ decimalWithin (suc g) n
+    by : (t : Bool) → ltb n 10 ≡ t → (n / 10 < f → n / 10 < g → decimalWithin f (n / 10) ≡ decimalWithin g (n / 10))
+        → decimalWithin (suc f) n ≡ decimalWithin (suc g) n
     by true e ih = rw e
     by false e ih = rw e (ap {B = List ℕ} (λ r. r ++ ((48 + n % 10) ∷ [])) (ih (omega (arith, ltb-false n 10 e)) (omega (arith, ltb-false n 10 e))))
 
@@ -44,7 +45,11 @@ decimal-induction P small grows n = go (suc n) n (le-refl (suc n))
   where
     go : (f m : ℕ) → m < f → P m
     go zero m h = absurd (not-suc-le-zero h)
-    go (suc f) m h = elim (decLt m 10) [ yes a ↦ small m a | no a ↦ subst P (omega arith) (grows (m / 10) (m % 10) (omega arith) (omega arith) (go f (m / 10) (omega arith))) ]
+    go (suc f) m h = elim (decLt m 10) [
+      | yes a ↦ small m a
+      | no a ↦ subst P (omega arith)
+          (grows (m / 10) (m % 10) (omega arith) (omega arith) (go f (m / 10) (omega arith)))
+    ]
 
 digit-of : (k : ℕ) → k < 10 → isDigit (48 + k) ≡ true
 unfolding isDigit
@@ -55,7 +60,8 @@ unfolding isDigit
 digit-range d e = let (a, b) = both-true (leb 48 d) (leb d 57) e in (leb-true 48 d a, leb-true d 57 b)
 
 pub decimal-each : (n : ℕ) → Each isDigit (decimal n)
-decimal-each = decimal-induction (λ n. Each isDigit (decimal n)) (λ n h. rw (decimal-small n h) (digit-of n h, tt)) (λ n k h l ih. rw (decimal-grows n k h l) (each-append isDigit (decimal n) ((48 + k) ∷ []) ih (digit-of k l, tt)))
+decimal-each = decimal-induction (λ n. Each isDigit (decimal n)) (λ n h. rw (decimal-small n h) (digit-of n h, tt))
+    (λ n k h l ih. rw (decimal-grows n k h l) (each-append isDigit (decimal n) ((48 + k) ∷ []) ih (digit-of k l, tt)))
 
 value-append : (m : ℕ) (s t : List ℕ) → decimalValue m (s ++ t) ≡ decimalValue (decimalValue m s) t
 unfolding decimalValue
@@ -64,25 +70,34 @@ value-append m (d ∷ s) t = value-append (m * 10 + (d - 48)) s t
 
 pub decimal-value : (n : ℕ) → decimalValue 0 (decimal n) ≡ n
 unfolding decimalValue
-decimal-value = decimal-induction (λ n. decimalValue 0 (decimal n) ≡ n) (λ n h. rw (decimal-small n h) (omega arith)) (λ n k h l ih. rw (decimal-grows n k h l, value-append 0 (decimal n) ((48 + k) ∷ []), ih) (omega arith))
+decimal-value = decimal-induction (λ n. decimalValue 0 (decimal n) ≡ n) (λ n h. rw (decimal-small n h) (omega arith))
+    (λ n k h l ih. rw (decimal-grows n k h l, value-append 0 (decimal n) ((48 + k) ∷ []), ih) (omega arith))
 
 pub decimal-some : (n : ℕ) → 1 ≤ length (decimal n)
-decimal-some = decimal-induction (λ n. 1 ≤ length (decimal n)) (λ n h. rw (decimal-small n h) (omega arith)) (λ n k h l ih. rw (decimal-grows n k h l) (omega (arith, length-append (decimal n) ((48 + k) ∷ []))))
+decimal-some = decimal-induction (λ n. 1 ≤ length (decimal n)) (λ n h. rw (decimal-small n h) (omega arith))
+    (λ n k h l ih. rw (decimal-grows n k h l) (omega (arith, length-append (decimal n) ((48 + k) ∷ []))))
 
 -- a number below 10^k has at most k digits
 pub decimal-length : (n k : ℕ) → n < 10 ^ suc k → length (decimal n) ≤ suc k
-decimal-length = decimal-induction (λ n. (k : ℕ) → n < 10 ^ suc k → length (decimal n) ≤ suc k) (λ n h k l. rw (decimal-small n h) (omega arith)) (λ n k h l ih. more n k h l ih)
+decimal-length = decimal-induction (λ n. (k : ℕ) → n < 10 ^ suc k → length (decimal n) ≤ suc k) (λ n h k l. rw (decimal-small n h) (omega arith))
+    (λ n k h l ih. more n k h l ih)
   where
-    more : (n k : ℕ) → 0 < n → k < 10 → ((j : ℕ) → n < 10 ^ suc j → length (decimal n) ≤ suc j) → (j : ℕ) → n * 10 + k < 10 ^ suc j → length (decimal (n * 10 + k)) ≤ suc j
+    more : (n k : ℕ) → 0 < n → k < 10 → ((j : ℕ) → n < 10 ^ suc j → length (decimal n) ≤ suc j) → (j : ℕ) → n * 10 + k < 10 ^ suc j
+        → length (decimal (n * 10 + k)) ≤ suc j
     more n k h l ih zero b = absurd (omega (arith, b))
-    more n k h l ih (suc j) b = rw (decimal-grows n k h l) (omega (arith, length-append (decimal n) ((48 + k) ∷ []), ih j (omega (arith, b, pow-suc 10 (suc j)))))
+    more n k h l ih (suc j) b = rw (decimal-grows n k h l) (omega (
+      arith,
+      length-append (decimal n) ((48 + k) ∷ []),
+      ih j (omega (arith, b, pow-suc 10 (suc j))),
+    ))
 
 first-append : (s t : List ℕ) → 1 ≤ length s → getD (s ++ t) 0 0 ≡ getD s 0 0
 first-append [] t h = absurd (not-suc-le-zero h)
 first-append (x ∷ s) t h = refl
 
 first-not-zero : (n : ℕ) → 0 < n → getD (decimal n) 0 0 ≡ 48 → ⊥
-first-not-zero = decimal-induction (λ n. 0 < n → getD (decimal n) 0 0 ≡ 48 → ⊥) (λ n h a e. few n h a (rw (decimal-small n h) at e)) (λ n k h l ih a e. ih h (sym (first-append (decimal n) ((48 + k) ∷ []) (decimal-some n)) ∙ (rw (decimal-grows n k h l) at e)))
+first-not-zero = decimal-induction (λ n. 0 < n → getD (decimal n) 0 0 ≡ 48 → ⊥) (λ n h a e. few n h a (rw (decimal-small n h) at e))
+    (λ n k h l ih a e. ih h (sym (first-append (decimal n) ((48 + k) ∷ []) (decimal-some n)) ∙ (rw (decimal-grows n k h l) at e)))
   where
     few : (n : ℕ) → n < 10 → 0 < n → 48 + n ≡ 48 → ⊥
     few n h a e = omega arith
@@ -115,7 +130,13 @@ numeral-is ds e =
 pub number-decimal : (n : ℕ) (rest : List ℕ) → n < 10 ^ 7 → isDigit (getD rest 0 0) ≡ false → number (decimal n ++ rest) ≡ is n rest
 unfolding number
 number-decimal n rest h z =
-    rw (run-append isDigit (decimal n) rest (decimal-each n) z, numeral-of (decimal n) (record { some = decimal-some n; most = decimal-length n 6 h; first = first-zero-alone n }), decimal-value n, drop-append-seam (decimal n) rest)
+    rw (
+      run-append isDigit (decimal n) rest (decimal-each n) z,
+      numeral-of (decimal n)
+          (record { some = decimal-some n; most = decimal-length n 6 h; first = first-zero-alone n }),
+      decimal-value n,
+      drop-append-seam (decimal n) rest,
+    )
 
 -- digits after a number that isn't 0 are the digits of what they all say
 digits-after : (ds : List ℕ) (n : ℕ) → 0 < n → Each isDigit ds → decimal n ++ ds ≡ decimal (decimalValue n ds)
@@ -138,7 +159,8 @@ unfolding decimalValue
 value-below [] n a = rw pow-zero (omega arith)
 value-below (d ∷ ds) n a =
     let (low, high) = digit-range d (a .0) in
-    rw (pow-suc 10 (length ds)) (one-digit-more n (d - 48) (10 ^ length ds) (decimalValue (n * 10 + (d - 48)) ds) (omega arith) (value-below ds (n * 10 + (d - 48)) (a .1)))
+    rw (pow-suc 10 (length ds)) (one-digit-more n (d - 48) (10 ^ length ds) (decimalValue (n * 10 + (d - 48)) ds) (omega arith)
+    (value-below ds (n * 10 + (d - 48)) (a .1)))
 
 numeral-digits : (ds : List ℕ) → Each isDigit ds → Numeral ds → ds ≡ decimal (decimalValue 0 ds)
 unfolding decimalValue
@@ -154,7 +176,8 @@ numeral-digits (d ∷ ds) a n = elim (decLt 48 d) [ yes h ↦ large h | no h ↦
     large : 48 < d → d ∷ ds ≡ decimal (decimalValue (0 * 10 + (d - 48)) ds)
     large h =
         let same : 48 + (0 * 10 + (d - 48)) ≡ d = omega (arith, low) in
-        ap {B = List ℕ} (λ r. r ++ ds) (sym (rw same at (decimal-small (0 * 10 + (d - 48)) (omega (arith, low, most))))) ∙ digits-after ds (0 * 10 + (d - 48)) (omega (arith, h)) (a .1)
+        ap {B = List ℕ} (λ r. r ++ ds) (sym (rw same at (decimal-small (0 * 10 + (d - 48)) (omega (arith, low, most)))))
+        ∙ digits-after ds (0 * 10 + (d - 48)) (omega (arith, h)) (a .1)
 
     zeros : (t : List ℕ) → Each isDigit t → suc (length t) ≡ 1 → d ∷ t ≡ decimal (decimalValue (0 * 10 + (d - 48)) t)
     zeros [] b e =

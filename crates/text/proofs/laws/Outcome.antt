@@ -40,14 +40,17 @@ pub refused-place : {A : Type 0} (number place m q : ℕ) → _≡_ {A = Outcome
 refused-place number place m q e = cc
 
 -- the same refusal of another kind of call
-pub moved : {A B : Type 0} (number place m q : ℕ) → _≡_ {A = Outcome A} (refused number place) (refused m q) → _≡_ {A = Outcome B} (refused number place) (refused m q)
+pub moved : {A B : Type 0} (number place m q : ℕ) → _≡_ {A = Outcome A} (refused number place) (refused m q)
+    → _≡_ {A = Outcome B} (refused number place) (refused m q)
 moved number place m q e = λ x. refused (refused-number number place m q e x) (refused-place number place m q e x)
 
 module _ {A B : Type 0} where
-  pub bind-refused : (o : Outcome A) (f : A → Outcome B) (number place : ℕ) → (o >>= f) ≡ refused number place → (o ≡ refused number place) ⊎ ((a : A) × (o ≡ taken a) × (f a ≡ refused number place))
+  pub bind-refused : (o : Outcome A) (f : A → Outcome B) (number place : ℕ) → (o >>= f) ≡ refused number place → (o ≡ refused number place)
+      ⊎ ((a : A) × (o ≡ taken a) × (f a ≡ refused number place))
   bind-refused (taken a) f number place e = inr (a, refl, e)
   bind-refused (refused m q) f number place e = inl (moved m q number place e)
 
-  pub then-refused : (o : Outcome A) (next : Outcome B) (number place : ℕ) → (o >> next) ≡ refused number place → (o ≡ refused number place) ⊎ ((a : A) × (o ≡ taken a) × (next ≡ refused number place))
+  pub then-refused : (o : Outcome A) (next : Outcome B) (number place : ℕ) → (o >> next) ≡ refused number place → (o ≡ refused number place)
+      ⊎ ((a : A) × (o ≡ taken a) × (next ≡ refused number place))
   then-refused (taken a) next number place e = inr (a, refl, e)
   then-refused (refused m q) next number place e = inl (moved m q number place e)

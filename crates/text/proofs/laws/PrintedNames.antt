@@ -8,6 +8,7 @@ use Rattle.text.specs.Number.{decimalWithin, decimal}
 use Rattle.text.specs.Printed.{printedSymbols}
 use Rattle.text.specs.Symbol.{inputLetter}
 
-pub position-among-inputs : printedSymbols 0 (record { own = 2; controllable = false } ∷ record { own = 4; controllable = true } ∷ []) ≡ record { letter = inputLetter; position = 1; name = ascii "controllable_1" } ∷ []
+pub position-among-inputs : printedSymbols 0 (record { own = 2; controllable = false } ∷ record { own = 4; controllable = true } ∷ []) ≡
+    record { letter = inputLetter; position = 1; name = ascii "controllable_1" } ∷ []
 unfolding printedSymbols decimal decimalWithin
 position-among-inputs = refl

@@ -48,7 +48,8 @@ printed-line f s h a =
       placed = ofInput (a .letter) (a .most);
       some = rw (a .name) (omega arith);
       most = rw (a .name) (omega (arith, decimal-length (s .position) 1 (omega (arith, a .most))));
-      bytes = rw (a .name) (all-append (λ b. (32 ≤ b) × (b ≤ 126)) prefix (decimal (s .position)) prefix-bytes (digit-bytes (decimal (s .position)) (decimal-each (s .position))));
+      bytes = rw (a .name) (all-append (λ b. (32 ≤ b) × (b ≤ 126)) prefix (decimal (s .position)) prefix-bytes
+          (digit-bytes (decimal (s .position)) (decimal-each (s .position))));
     }
 
 table-same : {A : Type 0} (f g : ℕ → A) (n : ℕ) → ((i : ℕ) → i < n → f i ≡ g i) → table f n ≡ table g n
@@ -66,15 +67,37 @@ input-count f = length-table (λ i. record { own = getD (f .inputs) i 0; control
 
 inputs-back : (f : TextFile) → map (λ (i : Input). i .own) (circuitOf f .inputs) ≡ f .inputs
 unfolding circuitOf
-inputs-back f = ext-getD 0 (map (λ (i : Input). i .own) (circuitOf f .inputs)) (f .inputs) (length-map (circuitOf f .inputs) (λ (i : Input). i .own) ∙ input-count f) (λ i h. List·getD-map (λ (i : Input). i .own) (circuitOf f .inputs) i noInput ∙ ap (λ (j : Input). j .own) (getD-table (λ j. record { own = getD (f .inputs) j 0; controllable = isControllable (f .symbols) j }) (length (f .inputs)) i noInput (omega (arith, h, length-map (circuitOf f .inputs) (λ (j : Input). j .own), input-count f))))
+inputs-back f = ext-getD 0 (map (λ (i : Input). i .own) (circuitOf f .inputs)) (f .inputs)
+    (length-map (circuitOf f .inputs) (λ (i : Input). i .own) ∙ input-count f)
+    (λ i h. List·getD-map (λ (i : Input). i .own) (circuitOf f .inputs) i noInput
+    ∙ ap (λ (j : Input). j .own) (getD-table (λ j. record { own = getD (f .inputs) j 0; controllable = isControllable (f .symbols) j })
+    (length (f .inputs)) i noInput (omega (arith, h, length-map (circuitOf f .inputs) (λ (j : Input). j .own), input-count f))))
 
 -- the file that is printed
 abbrev printedOf : TextFile → TextFile
-printedOf f = record { largest = f .largest; inputs = f .inputs; latches = f .latches; output = f .output; gates = f .gates; symbols = printedSymbols 0 (circuitOf f .inputs); comment = none }
+printedOf f = record {
+  largest = f .largest;
+  inputs = f .inputs;
+  latches = f .latches;
+  output = f .output;
+  gates = f .gates;
+  symbols =
+      printedSymbols 0 (circuitOf f .inputs);
+  comment = none;
+}
 
 printed-is : (f : TextFile) → printedFile (circuitOf f) ≡ printedOf f
 unfolding printedFile circuitOf
-printed-is f = λ x. record { largest = f .largest; inputs = inputs-back f x; latches = f .latches; output = f .output; gates = f .gates; symbols = printedSymbols 0 (circuitOf f .inputs); comment = none }
+printed-is f = λ x. record {
+  largest = f .largest;
+  inputs = inputs-back f x;
+  latches = f .latches;
+  output = f .output;
+  gates = f .gates;
+  symbols =
+      printedSymbols 0 (circuitOf f .inputs);
+  comment = none;
+}
 
 printed-symbols : (f : TextFile) → All (PrintedAt 0 (length (f .inputs))) (printedSymbols 0 (circuitOf f .inputs))
 printed-symbols f = printed-at 0 (length (f .inputs)) (circuitOf f .inputs) (omega (arith, input-count f))
@@ -112,7 +135,8 @@ printed-form f w =
       operands = w .operands;
       nexts = w .nexts;
       error = w .error;
-      symbols = all-weaker (PrintedAt 0 (length (f .inputs))) (SymbolLine (printedOf f)) (λ s a. printed-line (printedOf f) s (w .inputCount) a) (printedSymbols 0 (circuitOf f .inputs)) (printed-symbols f);
+      symbols = all-weaker (PrintedAt 0 (length (f .inputs))) (SymbolLine (printedOf f)) (λ s a. printed-line (printedOf f) s (w .inputCount) a)
+          (printedSymbols 0 (circuitOf f .inputs)) (printed-symbols f);
       apart = printed-apart 0 (circuitOf f .inputs);
     }
 
@@ -122,12 +146,16 @@ unfolding circuitOf
 same-controllable f i h =
     ap (isControllable (printedSymbols 0 (circuitOf f .inputs))) (sym (zero-add i))
     ∙ printed-controllable noInput 0 (circuitOf f .inputs) i (omega (arith, h, input-count f))
-    ∙ ap (λ (j : Input). j .controllable) (getD-table (λ j. record { own = getD (f .inputs) j 0; controllable = isControllable (f .symbols) j }) (length (f .inputs)) i noInput h)
+    ∙ ap (λ (j : Input). j .controllable) (getD-table (λ j. record { own = getD (f .inputs) j 0; controllable = isControllable (f .symbols) j })
+    (length (f .inputs)) i noInput h)
 
 same-circuit : (f : TextFile) → circuitOf (printedOf f) ≡ circuitOf f
 unfolding circuitOf
 same-circuit f =
-    let inputs : circuitOf (printedOf f) .inputs ≡ circuitOf f .inputs = table-same {A = Input} (λ i. record { own = getD (f .inputs) i 0; controllable = isControllable (printedSymbols 0 (circuitOf f .inputs)) i }) (λ i. record { own = getD (f .inputs) i 0; controllable = isControllable (f .symbols) i }) (length (f .inputs)) (λ i h x. record { own = getD (f .inputs) i 0; controllable = same-controllable f i h x }) in
+    let inputs : circuitOf (printedOf f) .inputs ≡ circuitOf f .inputs =
+    table-same {A = Input} (λ i. record { own = getD (f .inputs) i 0; controllable = isControllable (printedSymbols 0 (circuitOf f .inputs)) i })
+    (λ i. record { own = getD (f .inputs) i 0; controllable = isControllable (f .symbols) i }) (length (f .inputs))
+    (λ i h x. record { own = getD (f .inputs) i 0; controllable = same-controllable f i h x }) in
     λ x. record { largest = f .largest; inputs = inputs x; latches = f .latches; output = f .output; gates = f .gates }
 
 -- the file that a circuit was read from
@@ -151,8 +179,10 @@ pub printed-reads-back : (bytes : List ℕ) (c : Circuit) → circuitRead base b
 printed-reads-back bytes c e =
     let s : Source c = source bytes c e in
     let f : TextFile = s .file in
-    let read : fileRead base (printed (circuitOf f)) ≡ taken (printedOf f) = ap (fileRead base) (printed-text f) ∙ complete base (printedOf f) (printed-form f (s .form)) refl in
-    let back : circuitRead base (printed (circuitOf f)) ≡ taken (circuitOf f) = taken-circuit base (printed (circuitOf f)) (circuitOf f) .1 (printedOf f, read, ap (tooMany base) (same-circuit f) ∙ s .few, same-circuit f) in
+    let read : fileRead base (printed (circuitOf f)) ≡ taken (printedOf f) =
+    ap (fileRead base) (printed-text f) ∙ complete base (printedOf f) (printed-form f (s .form)) refl in
+    let back : circuitRead base (printed (circuitOf f)) ≡ taken (circuitOf f) =
+    taken-circuit base (printed (circuitOf f)) (circuitOf f) .1 (printedOf f, read, ap (tooMany base) (same-circuit f) ∙ s .few, same-circuit f) in
     subst (λ (d : Circuit). circuitRead base (printed d) ≡ taken d) (s .means) back
 
 -- so it is printed again as the same bytes
@@ -164,5 +194,6 @@ pub printed-length : (bytes : List ℕ) (c : Circuit) → circuitRead base bytes
 printed-length bytes c e =
     let s : Source c = source bytes c e in
     let f : TextFile = s .file in
-    let short : length (printed (circuitOf f)) ≤ 15157 = subst (λ (t : List ℕ). length t ≤ 15157) (sym (printed-text f)) (text-length (printedOf f) (printable f (s .form))) in
+    let short : length (printed (circuitOf f)) ≤ 15157 = subst (λ (t : List ℕ). length t ≤ 15157) (sym (printed-text f))
+    (text-length (printedOf f) (printable f (s .form))) in
     subst (λ (d : Circuit). length (printed d) ≤ 15157) (s .means) short

@@ -48,7 +48,8 @@ added p i is = by (i .controllable) refl
 pub printed-at : (p n : ℕ) (is : List Input) → p + length is ≤ n → All (PrintedAt p n) (printedSymbols p is)
 unfolding printedSymbols
 printed-at p n [] h = tt
-printed-at p n (i ∷ is) h = by (added p i is) (all-weaker (PrintedAt (suc p) n) (PrintedAt p n) (wider p n) (printedSymbols (suc p) is) (printed-at (suc p) n is (omega arith)))
+printed-at p n (i ∷ is) h = by (added p i is) (all-weaker (PrintedAt (suc p) n) (PrintedAt p n) (wider p n) (printedSymbols (suc p) is)
+    (printed-at (suc p) n is (omega arith)))
   where
     by : Added p i is → All (PrintedAt p n) (printedSymbols (suc p) is) → All (PrintedAt p n) (printedSymbols p (i ∷ is))
     by (named e q) ih = rw q (record { letter = refl; least = omega arith; most = omega (arith, h); name = refl }, ih)
@@ -67,7 +68,11 @@ printed-apart p (i ∷ is) = by (added p i is) (printed-apart (suc p) is)
     higher s a l e = omega (arith, a .least, e)
 
     by : Added p i is → Pairs Apart (printedSymbols (suc p) is) → Pairs Apart (printedSymbols p (i ∷ is))
-    by (named e q) ih = rw q (all-weaker (PrintedAt (suc p) n) (Apart (symbolAt p)) higher (printedSymbols (suc p) is) (printed-at (suc p) n is (omega arith)), ih)
+    by (named e q) ih = rw q (
+      all-weaker (PrintedAt (suc p) n) (Apart (symbolAt p)) higher (printedSymbols (suc p) is)
+          (printed-at (suc p) n is (omega arith)),
+      ih,
+    )
     by (unnamed e q) ih = rw q ih
 
 -- no more symbols than inputs
@@ -93,13 +98,15 @@ elsewhere q s n = by (eqb (s .letter) inputLetter) refl
     by false e = rw e
 
 not-before : (q p : ℕ) (is : List Input) → q < p → among (test q) (printedSymbols p is) ≡ false
-not-before q p is h = none-among (test q) (printedSymbols p is) (all-weaker (PrintedAt p (p + length is)) (λ s. test q s ≡ false) (λ s a. elsewhere q s (λ e. omega (arith, a .least, e, h))) (printedSymbols p is) (printed-at p (p + length is) is (omega arith)))
+not-before q p is h = none-among (test q) (printedSymbols p is) (all-weaker (PrintedAt p (p + length is)) (λ s. test q s ≡ false)
+    (λ s a. elsewhere q s (λ e. omega (arith, a .least, e, h))) (printedSymbols p is) (printed-at p (p + length is) is (omega arith)))
 
 here : (p : ℕ) → test p (symbolAt p) ≡ true
 unfolding names isControllableName
 here p = rw (eq-eqb p p refl) (starts-with-append prefix (decimal p))
 
-pub printed-controllable : (d : Input) (p : ℕ) (is : List Input) (i : ℕ) → i < length is → isControllable (printedSymbols p is) (p + i) ≡ getD is i d .controllable
+pub printed-controllable : (d : Input) (p : ℕ) (is : List Input) (i : ℕ) → i < length is
+    → isControllable (printedSymbols p is) (p + i) ≡ getD is i d .controllable
 unfolding isControllable among
 printed-controllable d p [] i h = absurd (not-suc-le-zero h)
 printed-controllable d p (x ∷ is) zero h = by (added p x is)
@@ -112,6 +119,7 @@ printed-controllable d p (x ∷ is) (suc i) h = by (added p x is) (printed-contr
     shift : p + suc i ≡ suc p + i
     shift = omega arith
 
-    by : Added p x is → among (test (suc p + i)) (printedSymbols (suc p) is) ≡ getD is i d .controllable → among (test (p + suc i)) (printedSymbols p (x ∷ is)) ≡ getD is i d .controllable
+    by : Added p x is → among (test (suc p + i)) (printedSymbols (suc p) is) ≡ getD is i d .controllable
+        → among (test (p + suc i)) (printedSymbols p (x ∷ is)) ≡ getD is i d .controllable
     by (named e q) ih = rw (q, elsewhere (p + suc i) (symbolAt p) (λ k. omega (arith, k)), shift) ih
     by (unnamed e q) ih = rw (q, shift) ih

@@ -91,22 +91,31 @@ latchRow l = l .own ∷ l .next ∷ []
 abbrev pub gateRow : Gate → List ℕ
 gateRow g = g .own ∷ g .left ∷ g .right ∷ []
 
-pub inputs-fine : (M : ℕ) (defined xs : List ℕ) → 2 * M + 1 < 10 ^ 7 → All (Defining M) xs → Fresh (λ v w. v ≢ w) defined (map variable xs) → AllFine (inputRule M) defined (map inputRow xs)
+pub inputs-fine : (M : ℕ) (defined xs : List ℕ) → 2 * M + 1 < 10 ^ 7 → All (Defining M) xs → Fresh (λ v w. v ≢ w) defined (map variable xs)
+    → AllFine (inputRule M) defined (map inputRow xs)
 unfolding inputRule
 inputs-fine M defined [] s a f = tt
 inputs-fine M defined (x ∷ xs) s a f = (
-  record { count = refl; below = (omega (arith, a .0 .most, s), tt); fine = no-fault-of (badOwn M x) (isDefined defined x) false (good-own-of M x (a .0)) (fresh-own-of defined x (f .0)) refl },
+  record {
+    count = refl;
+    below = (omega (arith, a .0 .most, s), tt);
+    fine =
+        no-fault-of (badOwn M x) (isDefined defined x) false (good-own-of M x (a .0)) (fresh-own-of defined x (f .0)) refl;
+  },
   inputs-fine M (defined ++ (variable x ∷ [])) xs s (a .1) (f .1),
 )
 
-pub latches-fine : (M : ℕ) (defined : List ℕ) (ls : List Latch) → 2 * M + 1 < 10 ^ 7 → All (LatchLine M) ls → Fresh (λ v w. v ≢ w) defined (map (λ (l : Latch). variable (l .own)) ls) → AllFine (latchRule M) defined (map latchRow ls)
+pub latches-fine : (M : ℕ) (defined : List ℕ) (ls : List Latch) → 2 * M + 1 < 10 ^ 7 → All (LatchLine M) ls
+    → Fresh (λ v w. v ≢ w) defined (map (λ (l : Latch). variable (l .own)) ls) → AllFine (latchRule M) defined (map latchRow ls)
 unfolding latchRule
 latches-fine M defined [] s a f = tt
 latches-fine M defined (l ∷ ls) s a f = (
   record {
     count = refl;
     below = (omega (arith, a .0 .own .most, s), (omega (arith, a .0 .next, s), tt));
-    fine = no-fault-of (badOwn M (l .own) || tooLarge M (l .next)) (isDefined defined (l .own)) false (neither-of (badOwn M (l .own)) (tooLarge M (l .next)) (good-own-of M (l .own) (a .0 .own)) (not-too-large-of M (l .next) (a .0 .next))) (fresh-own-of defined (l .own) (f .0)) refl;
+    fine = no-fault-of (badOwn M (l .own) || tooLarge M (l .next)) (isDefined defined (l .own)) false
+        (neither-of (badOwn M (l .own)) (tooLarge M (l .next)) (good-own-of M (l .own) (a .0 .own)) (not-too-large-of M (l .next) (a .0 .next)))
+        (fresh-own-of defined (l .own) (f .0)) refl;
   },
   latches-fine M (defined ++ (variable (l .own) ∷ [])) ls s (a .1) (f .1),
 )
@@ -116,14 +125,16 @@ unfolding outputRule
 output-fine M defined l s h =
     (record { count = refl; below = (omega (arith, h, s), tt); fine = no-fault-of (tooLarge M l) false false (not-too-large-of M l h) refl refl }, tt)
 
-pub gates-fine : (M : ℕ) (defined : List ℕ) (gs : List Gate) → 2 * M + 1 < 10 ^ 7 → All (GateLine M) gs → Fresh (λ v w. v ≢ w) defined (map (λ (g : Gate). variable (g .own)) gs) → Operands defined gs → AllFine (gateRule M) defined (map gateRow gs)
+pub gates-fine : (M : ℕ) (defined : List ℕ) (gs : List Gate) → 2 * M + 1 < 10 ^ 7 → All (GateLine M) gs
+    → Fresh (λ v w. v ≢ w) defined (map (λ (g : Gate). variable (g .own)) gs) → Operands defined gs → AllFine (gateRule M) defined (map gateRow gs)
 unfolding gateRule
 gates-fine M defined [] s a f o = tt
 gates-fine M defined (g ∷ gs) s a f o = (
   record {
     count = refl;
     below = (omega (arith, a .0 .own .most, s), (omega (arith, a .0 .left, s), (omega (arith, a .0 .right, s), tt)));
-    fine = no-fault-of five (isDefined defined (g .own)) seven large (fresh-own-of defined (g .own) (f .0)) (neither-of (unknown defined (g .left)) (unknown defined (g .right)) (known-is defined (g .left) (o .0)) (known-is defined (g .right) (o .1)));
+    fine = no-fault-of five (isDefined defined (g .own)) seven large (fresh-own-of defined (g .own) (f .0))
+        (neither-of (unknown defined (g .left)) (unknown defined (g .right)) (known-is defined (g .left) (o .0)) (known-is defined (g .right) (o .1)));
   },
   gates-fine M (defined ++ (variable (g .own) ∷ [])) gs s (a .1) (f .1) (o .2),
 )
@@ -135,7 +146,9 @@ gates-fine M defined (g ∷ gs) s a f o = (
     seven = unknown defined (g .left) || unknown defined (g .right)
 
     large : five ≡ false
-    large = neither-of (badOwn M (g .own) || tooLarge M (g .left)) (tooLarge M (g .right)) (neither-of (badOwn M (g .own)) (tooLarge M (g .left)) (good-own-of M (g .own) (a .0 .own)) (not-too-large-of M (g .left) (a .0 .left))) (not-too-large-of M (g .right) (a .0 .right))
+    large = neither-of (badOwn M (g .own) || tooLarge M (g .left)) (tooLarge M (g .right))
+        (neither-of (badOwn M (g .own)) (tooLarge M (g .left)) (good-own-of M (g .own) (a .0 .own)) (not-too-large-of M (g .left) (a .0 .left)))
+        (not-too-large-of M (g .right) (a .0 .right))
 
 -- what lines say that were found fine: each is one of these items, in which the rules find nothing, and each defines a variable of its own
 pub record LinesAre {A : Type 0} (row : A → List ℕ) (own : A → ℕ) (Right : A → Type 0) (defined : List ℕ) (rows : List (List ℕ)) (xs : List A) : Type 0 where
@@ -143,7 +156,9 @@ pub record LinesAre {A : Type 0} (row : A → List ℕ) (own : A → ℕ) (Right
   pub each : All Right xs
   pub fresh : Fresh (λ v w. v ≢ w) defined (map (λ x. variable (own x)) xs)
 
-one-item-more : {A : Type 0} (row : A → List ℕ) (own : A → ℕ) (Right : A → Type 0) (defined : List ℕ) (rows : List (List ℕ)) (xs : List A) (x : A) → Right x → All (λ w. w ≢ variable (own x)) defined → LinesAre row own Right (defined ++ (variable (own x) ∷ [])) rows xs → LinesAre row own Right defined (row x ∷ rows) (x ∷ xs)
+one-item-more : {A : Type 0} (row : A → List ℕ) (own : A → ℕ) (Right : A → Type 0) (defined : List ℕ) (rows : List (List ℕ)) (xs : List A) (x : A)
+    → Right x → All (λ w. w ≢ variable (own x)) defined → LinesAre row own Right (defined ++ (variable (own x) ∷ [])) rows xs
+    → LinesAre row own Right defined (row x ∷ rows) (x ∷ xs)
 one-item-more row own Right defined rows xs x r f rest =
     record {
       written = ap {B = List (List ℕ)} (λ z. row x ∷ z) (rest .written);
@@ -151,16 +166,19 @@ one-item-more row own Right defined rows xs x r f rest =
       fresh = (f, rest .fresh);
     }
 
-pub inputs-are : (M : ℕ) (defined : List ℕ) (rows : List (List ℕ)) → AllFine (inputRule M) defined rows → LinesAre inputRow (λ x. x) (Defining M) defined rows (map (λ fs. getD fs 0 0) rows)
+pub inputs-are : (M : ℕ) (defined : List ℕ) (rows : List (List ℕ)) → AllFine (inputRule M) defined rows
+    → LinesAre inputRow (λ x. x) (Defining M) defined rows (map (λ fs. getD fs 0 0) rows)
 unfolding inputRule
 inputs-are M defined [] f = record { written = refl; each = tt; fresh = tt }
 inputs-are M defined ([] ∷ rows) f = absurd (omega (arith, f .0 .count))
 inputs-are M defined ((x ∷ y ∷ zs) ∷ rows) f = absurd (omega (arith, f .0 .count))
 inputs-are M defined ((x ∷ []) ∷ rows) f =
     let (five, six, seven) = no-fault (badOwn M x) (isDefined defined x) false (f .0 .fine) in
-    one-item-more inputRow (λ y. y) (Defining M) defined rows (map (λ fs. getD fs 0 0) rows) x (good-own M x five) (fresh-own defined x six) (inputs-are M (defined ++ (variable x ∷ [])) rows (f .1))
+    one-item-more inputRow (λ y. y) (Defining M) defined rows (map (λ fs. getD fs 0 0) rows) x (good-own M x five) (fresh-own defined x six)
+    (inputs-are M (defined ++ (variable x ∷ [])) rows (f .1))
 
-pub latches-are : (M : ℕ) (defined : List ℕ) (rows : List (List ℕ)) → AllFine (latchRule M) defined rows → LinesAre latchRow (λ l. l .own) (LatchLine M) defined rows (map latchOf rows)
+pub latches-are : (M : ℕ) (defined : List ℕ) (rows : List (List ℕ)) → AllFine (latchRule M) defined rows
+    → LinesAre latchRow (λ l. l .own) (LatchLine M) defined rows (map latchOf rows)
 unfolding latchRule latchOf
 latches-are M defined [] f = record { written = refl; each = tt; fresh = tt }
 latches-are M defined ([] ∷ rows) f = absurd (omega (arith, f .0 .count))
@@ -169,9 +187,11 @@ latches-are M defined ((x ∷ y ∷ z ∷ zs) ∷ rows) f = absurd (omega (arith
 latches-are M defined ((x ∷ y ∷ []) ∷ rows) f =
     let (five, six, seven) = no-fault (badOwn M x || tooLarge M y) (isDefined defined x) false (f .0 .fine) in
     let (own, next) = neither (badOwn M x) (tooLarge M y) five in
-    one-item-more latchRow (λ (l : Latch). l .own) (LatchLine M) defined rows (map latchOf rows) (record { own = x; next = y }) (record { own = good-own M x own; next = not-too-large M y next }) (fresh-own defined x six) (latches-are M (defined ++ (variable x ∷ [])) rows (f .1))
+    one-item-more latchRow (λ (l : Latch). l .own) (LatchLine M) defined rows (map latchOf rows) (record { own = x; next = y })
+    (record { own = good-own M x own; next = not-too-large M y next }) (fresh-own defined x six) (latches-are M (defined ++ (variable x ∷ [])) rows (f .1))
 
-pub output-is : (M : ℕ) (defined : List ℕ) (rows : List (List ℕ)) → length rows ≡ 1 → AllFine (outputRule M) defined rows → (rows ≡ (getD (getD rows 0 []) 0 0 ∷ []) ∷ []) × (getD (getD rows 0 []) 0 0 ≤ 2 * M + 1)
+pub output-is : (M : ℕ) (defined : List ℕ) (rows : List (List ℕ)) → length rows ≡ 1 → AllFine (outputRule M) defined rows
+    → (rows ≡ (getD (getD rows 0 []) 0 0 ∷ []) ∷ []) × (getD (getD rows 0 []) 0 0 ≤ 2 * M + 1)
 unfolding outputRule
 output-is M defined [] n f = absurd (omega (arith, n))
 output-is M defined (fs ∷ gs ∷ rows) n f = absurd (omega (arith, n))
@@ -179,7 +199,8 @@ output-is M defined ([] ∷ []) n f = absurd (omega (arith, f .0 .count))
 output-is M defined ((x ∷ y ∷ zs) ∷ []) n f = absurd (omega (arith, f .0 .count))
 output-is M defined ((x ∷ []) ∷ []) n f = (refl, not-too-large M x (no-fault (tooLarge M x) false false (f .0 .fine) .0))
 
-pub gates-are : (M : ℕ) (defined : List ℕ) (rows : List (List ℕ)) → AllFine (gateRule M) defined rows → LinesAre gateRow (λ g. g .own) (GateLine M) defined rows (map gateOf rows) × Operands defined (map gateOf rows)
+pub gates-are : (M : ℕ) (defined : List ℕ) (rows : List (List ℕ)) → AllFine (gateRule M) defined rows
+    → LinesAre gateRow (λ g. g .own) (GateLine M) defined rows (map gateOf rows) × Operands defined (map gateOf rows)
 unfolding gateRule gateOf
 gates-are M defined [] f = (record { written = refl; each = tt; fresh = tt }, tt)
 gates-are M defined ([] ∷ rows) f = absurd (omega (arith, f .0 .count))
@@ -187,17 +208,20 @@ gates-are M defined ((x ∷ []) ∷ rows) f = absurd (omega (arith, f .0 .count)
 gates-are M defined ((x ∷ y ∷ []) ∷ rows) f = absurd (omega (arith, f .0 .count))
 gates-are M defined ((x ∷ y ∷ z ∷ w ∷ ws) ∷ rows) f = absurd (omega (arith, f .0 .count))
 gates-are M defined ((x ∷ y ∷ z ∷ []) ∷ rows) f =
-    let (five, six, seven) = no-fault (badOwn M x || tooLarge M y || tooLarge M z) (isDefined defined x) (unknown defined y || unknown defined z) (f .0 .fine) in
+    let (five, six, seven) = no-fault (badOwn M x || tooLarge M y || tooLarge M z) (isDefined defined x) (unknown defined y || unknown defined z)
+    (f .0 .fine) in
     let (front, right) = neither (badOwn M x || tooLarge M y) (tooLarge M z) five in
     let (own, left) = neither (badOwn M x) (tooLarge M y) front in
     let (left-known, right-known) = neither (unknown defined y) (unknown defined z) seven in
     let (rest, operands) = gates-are M (defined ++ (variable x ∷ [])) rows (f .1) in (
-      one-item-more gateRow (λ (g : Gate). g .own) (GateLine M) defined rows (map gateOf rows) (record { own = x; left = y; right = z }) (record { own = good-own M x own; left = not-too-large M y left; right = not-too-large M z right }) (fresh-own defined x six) rest,
+      one-item-more gateRow (λ (g : Gate). g .own) (GateLine M) defined rows (map gateOf rows) (record { own = x; left = y; right = z })
+          (record { own = good-own M x own; left = not-too-large M y left; right = not-too-large M z right }) (fresh-own defined x six) rest,
       (known-of defined y left-known, known-of defined z right-known, operands),
     )
 
 -- what lines of items define
-pub news-items : {A : Type 0} (rule : Rule) (row : A → List ℕ) (own : A → ℕ) → rule .defines ≡ true → ((x : A) → getD (row x) 0 0 ≡ own x) → (xs : List A) → news rule (map row xs) ≡ map (λ x. variable (own x)) xs
+pub news-items : {A : Type 0} (rule : Rule) (row : A → List ℕ) (own : A → ℕ) → rule .defines ≡ true → ((x : A) → getD (row x) 0 0 ≡ own x)
+    → (xs : List A) → news rule (map row xs) ≡ map (λ x. variable (own x)) xs
 news-items rule row own d e [] = refl
 news-items rule row own d e (x ∷ xs) =
     let here : cond (rule .defines) (variable (getD (row x) 0 0) ∷ []) [] ≡ variable (own x) ∷ [] = (rw (d, e x)) in

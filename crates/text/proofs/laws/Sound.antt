@@ -38,10 +38,13 @@ use Rattle.text.proofs.laws.Used.{known-used}
 flat-rows-lines : (rows ls : List (List ℕ)) → flatMap (λ l. l) (map numberLine rows ++ ls) ≡ flatMap numberLine rows ++ flatMap (λ l. l) ls
 unfolding flatMap
 flat-rows-lines [] ls = refl
-flat-rows-lines (r ∷ rows) ls = ap {B = List ℕ} (λ t. numberLine r ++ t) (flat-rows-lines rows ls) ∙ sym (append-assoc (numberLine r) (flatMap numberLine rows) (flatMap (λ l. l) ls))
+flat-rows-lines (r ∷ rows) ls = ap {B = List ℕ} (λ t. numberLine r ++ t) (flat-rows-lines rows ls)
+    ∙ sym (append-assoc (numberLine r) (flatMap numberLine rows) (flatMap (λ l. l) ls))
 
-section-text : (rows same before after : List (List ℕ)) → before ≡ map numberLine rows ++ after → rows ≡ same → flatMap (λ l. l) before ≡ flatMap numberLine same ++ flatMap (λ l. l) after
-section-text rows same before after e r = ap (flatMap (λ l. l)) e ∙ flat-rows-lines rows after ∙ ap (λ (x : List (List ℕ)). flatMap numberLine x ++ flatMap (λ l. l) after) r
+section-text : (rows same before after : List (List ℕ)) → before ≡ map numberLine rows ++ after → rows ≡ same
+    → flatMap (λ l. l) before ≡ flatMap numberLine same ++ flatMap (λ l. l) after
+section-text rows same before after e r = ap (flatMap (λ l. l)) e ∙ flat-rows-lines rows after
+    ∙ ap (λ (x : List (List ℕ)). flatMap numberLine x ++ flatMap (λ l. l) after) r
 
 -- an output defines nothing
 output-news : (M : ℕ) (rows : List (List ℕ)) → news (outputRule M) rows ≡ []
@@ -59,31 +62,37 @@ module _ (h : Header) (rest : List (List ℕ)) (f : TextFile) (p : Parts h rest 
 
   latches-whole : Whole (latchRule (h .largest)) (h .latches) (p .inputs .defined) (p .inputs .rest) (p .latches)
   unfolding latchRule onward
-  latches-whole = section-whole (latchRule (h .largest)) 1 (h .latches) (2 + h .inputs) (p .inputs .defined) (p .inputs .rest) (p .latches) refl (p .latches-taken)
+  latches-whole = section-whole (latchRule (h .largest)) 1 (h .latches) (2 + h .inputs) (p .inputs .defined) (p .inputs .rest) (p .latches) refl
+      (p .latches-taken)
 
   output-whole : Whole (outputRule (h .largest)) 1 (p .latches .defined) (p .latches .rest) (p .output)
   unfolding outputRule onward
-  output-whole = section-whole (outputRule (h .largest)) 0 1 (2 + h .inputs + h .latches) (p .latches .defined) (p .latches .rest) (p .output) refl (p .output-taken)
+  output-whole = section-whole (outputRule (h .largest)) 0 1 (2 + h .inputs + h .latches) (p .latches .defined) (p .latches .rest) (p .output) refl
+      (p .output-taken)
 
   gates-whole : Whole (gateRule (h .largest)) (h .gates) (p .output .defined) (p .output .rest) (p .gates)
   unfolding gateRule onward
-  gates-whole = section-whole (gateRule (h .largest)) 2 (h .gates) (3 + h .inputs + h .latches) (p .output .defined) (p .output .rest) (p .gates) refl (p .gates-taken)
+  gates-whole = section-whole (gateRule (h .largest)) 2 (h .gates) (3 + h .inputs + h .latches) (p .output .defined) (p .output .rest) (p .gates) refl
+      (p .gates-taken)
 
   input-lines : LinesAre inputRow (λ x. x) (Defining (h .largest)) [] (p .inputs .rows) (F .inputs)
   input-lines = inputs-are (h .largest) [] (p .inputs .rows) (inputs-whole .fine)
 
   inputs-known : p .inputs .defined ≡ map variable (F .inputs)
   unfolding inputRule
-  inputs-known = inputs-whole .known ∙ ap (news (inputRule (h .largest))) (input-lines .written) ∙ news-items (inputRule (h .largest)) inputRow (λ x. x) refl (λ x. refl) (F .inputs)
+  inputs-known = inputs-whole .known ∙ ap (news (inputRule (h .largest))) (input-lines .written)
+      ∙ news-items (inputRule (h .largest)) inputRow (λ x. x) refl (λ x. refl) (F .inputs)
 
   latch-lines : LinesAre latchRow (λ l. l .own) (LatchLine (h .largest)) (map variable (F .inputs)) (p .latches .rows) (F .latches)
-  latch-lines = latches-are (h .largest) (map variable (F .inputs)) (p .latches .rows) (subst (λ (d : List ℕ). AllFine (latchRule (h .largest)) d (p .latches .rows)) inputs-known (latches-whole .fine))
+  latch-lines = latches-are (h .largest) (map variable (F .inputs)) (p .latches .rows)
+      (subst (λ (d : List ℕ). AllFine (latchRule (h .largest)) d (p .latches .rows)) inputs-known (latches-whole .fine))
 
   latches-known : p .latches .defined ≡ ofInputsAndLatches F
   unfolding latchRule
   latches-known =
       latches-whole .known
-      ∙ ap₂ {C = List ℕ} (λ a b. a ++ b) inputs-known (ap (news (latchRule (h .largest))) (latch-lines .written) ∙ news-items (latchRule (h .largest)) latchRow (λ l. l .own) refl (λ x. refl) (F .latches))
+      ∙ ap₂ {C = List ℕ} (λ a b. a ++ b) inputs-known (ap (news (latchRule (h .largest))) (latch-lines .written)
+      ∙ news-items (latchRule (h .largest)) latchRow (λ l. l .own) refl (λ x. refl) (F .latches))
 
   output-known : p .output .defined ≡ ofInputsAndLatches F
   output-known =
@@ -94,14 +103,17 @@ module _ (h : Header) (rest : List (List ℕ)) (f : TextFile) (p : Parts h rest 
   output-line : (p .output .rows ≡ (F .output ∷ []) ∷ []) × (F .output ≤ 2 * h .largest + 1)
   output-line = output-is (h .largest) (p .latches .defined) (p .output .rows) (output-whole .count) (output-whole .fine)
 
-  gate-lines : LinesAre gateRow (λ g. g .own) (GateLine (h .largest)) (ofInputsAndLatches F) (p .gates .rows) (F .gates) × Operands (ofInputsAndLatches F) (F .gates)
-  gate-lines = gates-are (h .largest) (ofInputsAndLatches F) (p .gates .rows) (subst (λ (d : List ℕ). AllFine (gateRule (h .largest)) d (p .gates .rows)) output-known (gates-whole .fine))
+  gate-lines : LinesAre gateRow (λ g. g .own) (GateLine (h .largest)) (ofInputsAndLatches F) (p .gates .rows) (F .gates)
+      × Operands (ofInputsAndLatches F) (F .gates)
+  gate-lines = gates-are (h .largest) (ofInputsAndLatches F) (p .gates .rows)
+      (subst (λ (d : List ℕ). AllFine (gateRule (h .largest)) d (p .gates .rows)) output-known (gates-whole .fine))
 
   gates-known : p .gates .defined ≡ definedIn F
   unfolding gateRule
   gates-known =
       gates-whole .known
-      ∙ ap₂ {C = List ℕ} (λ a b. a ++ b) output-known (ap (news (gateRule (h .largest))) (gate-lines .0 .written) ∙ news-items (gateRule (h .largest)) gateRow (λ g. g .own) refl (λ x. refl) (F .gates))
+      ∙ ap₂ {C = List ℕ} (λ a b. a ++ b) output-known (ap (news (gateRule (h .largest))) (gate-lines .0 .written)
+      ∙ news-items (gateRule (h .largest)) gateRow (λ g. g .own) refl (λ x. refl) (F .gates))
 
   header-same : h .outputs ≡ 1 → h ≡ headerFor F
   header-same one =
@@ -125,16 +137,19 @@ module _ (h : Header) (rest : List (List ℕ)) (f : TextFile) (p : Parts h rest 
       good-symbols F [] (F .symbols)
       (subst (λ (g : Header). AllGood g [] (F .symbols)) (header-same one) (subst (AllGood h []) (sym (symbols-are .all)) (symbols-are .good)))
 
-  body-text : flatMap (λ l. l) rest ≡ flatMap numberLine (map inputRow (F .inputs)) ++ (flatMap numberLine (map latchRow (F .latches)) ++ (numberLine (F .output ∷ []) ++ (flatMap numberLine (map gateRow (F .gates)) ++ behindText F)))
+  body-text : flatMap (λ l. l) rest ≡ flatMap numberLine (map inputRow (F .inputs))
+      ++ (flatMap numberLine (map latchRow (F .latches)) ++ (numberLine (F .output ∷ []) ++ (flatMap numberLine (map gateRow (F .gates)) ++ behindText F)))
   unfolding flatMap
   body-text =
       section-text (p .inputs .rows) is rest (p .inputs .rest) (inputs-whole .lines) (input-lines .written)
-      ∙ ap {B = List ℕ} (λ t. flatMap numberLine is ++ t) (section-text (p .latches .rows) ls (p .inputs .rest) (p .latches .rest) (latches-whole .lines) (latch-lines .written))
+      ∙ ap {B = List ℕ} (λ t. flatMap numberLine is ++ t) (section-text (p .latches .rows) ls (p .inputs .rest) (p .latches .rest)
+      (latches-whole .lines) (latch-lines .written))
       ∙ ap {B = List ℕ} (λ t. flatMap numberLine is ++ (flatMap numberLine ls ++ t))
       (section-text (p .output .rows) ((F .output ∷ []) ∷ []) (p .latches .rest) (p .output .rest) (output-whole .lines) (output-line .0)
       ∙ append-assoc (numberLine (F .output ∷ [])) [] (flatMap (λ l. l) (p .output .rest)))
       ∙ ap {B = List ℕ} (λ t. flatMap numberLine is ++ (flatMap numberLine ls ++ (numberLine (F .output ∷ []) ++ t)))
-      (section-text (p .gates .rows) gs (p .output .rest) (p .gates .rest) (gates-whole .lines) (gate-lines .0 .written) ∙ ap {B = List ℕ} (λ t. flatMap numberLine gs ++ t) behind-text)
+      (section-text (p .gates .rows) gs (p .output .rest) (p .gates .rest) (gates-whole .lines) (gate-lines .0 .written)
+      ∙ ap {B = List ℕ} (λ t. flatMap numberLine gs ++ t) behind-text)
     where
       is : List (List ℕ)
       is = map inputRow (F .inputs)
@@ -146,7 +161,9 @@ module _ (h : Header) (rest : List (List ℕ)) (f : TextFile) (p : Parts h rest 
       gs = map gateRow (F .gates)
 
   late-known : All (Known (definedIn F)) (map (λ fs. getD fs 1 0) (p .latches .rows) ++ map (λ fs. getD fs 0 0) (p .output .rows))
-  late-known = subst (λ (d : List ℕ). All (Known d) (map (λ fs. getD fs 1 0) (p .latches .rows) ++ map (λ fs. getD fs 0 0) (p .output .rows))) gates-known (known-used (p .gates .defined) (2 + h .inputs) (map (λ fs. getD fs 1 0) (p .latches .rows) ++ map (λ fs. getD fs 0 0) (p .output .rows)) tt (p .late-taken))
+  late-known = subst (λ (d : List ℕ). All (Known d) (map (λ fs. getD fs 1 0) (p .latches .rows) ++ map (λ fs. getD fs 0 0) (p .output .rows)))
+      gates-known (known-used (p .gates .defined) (2 + h .inputs) (map (λ fs. getD fs 1 0) (p .latches .rows)
+      ++ map (λ fs. getD fs 0 0) (p .output .rows)) tt (p .late-taken))
 
   nexts-known : All (λ (l : Latch). Known (definedIn F) (l .next)) (F .latches)
   unfolding latchOf
@@ -157,7 +174,8 @@ module _ (h : Header) (rest : List (List ℕ)) (f : TextFile) (p : Parts h rest 
 
   output-is-known : Known (definedIn F) (F .output)
   output-is-known =
-      let last : All (Known (definedIn F)) (map (λ fs. getD fs 0 0) (p .output .rows)) = all-right (Known (definedIn F)) (map (λ fs. getD fs 1 0) (p .latches .rows)) (map (λ fs. getD fs 0 0) (p .output .rows)) late-known in
+      let last : All (Known (definedIn F)) (map (λ fs. getD fs 0 0) (p .output .rows)) =
+      all-right (Known (definedIn F)) (map (λ fs. getD fs 1 0) (p .latches .rows)) (map (λ fs. getD fs 0 0) (p .output .rows)) late-known in
       subst (λ (rows : List (List ℕ)). All (Known (definedIn F)) (map (λ fs. getD fs 0 0) rows)) (output-line .0) last .0
 
   once : Pairs (λ v u. v ≢ u) (definedIn F)
@@ -170,7 +188,8 @@ module _ (h : Header) (rest : List (List ℕ)) (f : TextFile) (p : Parts h rest 
 
 module _ (limits : Limits) (bytes : List ℕ) (f : TextFile) (one : limits .outputs ≡ 1) (small : 2 * limits .variable + 1 < 10 ^ 7) where
   -- each part of reading a file was taken, so the file is its text
-  assembled : (h : Header) (p : Parts h (drop 1 (lines bytes)) f) → length bytes ≤ limits .file → Headed bytes h → Within limits h → (bytes ≡ textOf (F h (drop 1 (lines bytes)) f p)) × WellFormed limits (F h (drop 1 (lines bytes)) f p)
+  assembled : (h : Header) (p : Parts h (drop 1 (lines bytes)) f) → length bytes ≤ limits .file → Headed bytes h → Within limits h
+      → (bytes ≡ textOf (F h (drop 1 (lines bytes)) f p)) × WellFormed limits (F h (drop 1 (lines bytes)) f p)
   assembled h p long first w = (same, form)
     where
       rest : List (List ℕ)
@@ -226,4 +245,5 @@ module _ (limits : Limits) (bytes : List ℕ) (f : TextFile) (one : limits .outp
       let (v, c, e3) = then-taken _ _ f e2 in
       let p : Parts h (drop 1 (lines bytes)) f = parts h (drop 1 (lines bytes)) f e3 in
       subst (λ (g : TextFile). (bytes ≡ textOf g) × WellFormed limits g) (p .whole)
-      (assembled h p (ltb-false (limits .file) (length bytes) (refuse-none _ fileTooLong 0 u a)) (header-taken bytes h b) (within-is limits h (not-false _ (refuse-none _ headerLimit 1 v c))))
+      (assembled h p (ltb-false (limits .file) (length bytes) (refuse-none _ fileTooLong 0 u a)) (header-taken bytes h b)
+      (within-is limits h (not-false _ (refuse-none _ headerLimit 1 v c))))

@@ -66,4 +66,18 @@ parts h rest f e =
     let (gates, d, e4) = bind-taken (gateSection h output) (behindGates h inputs latches output) f e3 in
     let (u, g, e5) = then-taken (lateStage h latches output gates) (behindLate h inputs latches output gates) f e4 in
     let (behind, s, e6) = bind-taken (symbolStage h gates) (λ b. taken (fileOf h inputs latches output gates b)) f e5 in
-    record { inputs = inputs; latches = latches; output = output; gates = gates; behind = behind; inputs-taken = a; latches-taken = b; output-taken = c; gates-taken = d; late-taken = g; symbols-taken = s; whole = taken-is (fileOf h inputs latches output gates behind) f e6 }
+    record {
+      inputs = inputs;
+      latches = latches;
+      output = output;
+      gates = gates;
+      behind = behind;
+      inputs-taken = a;
+      latches-taken = b;
+      output-taken =
+          c;
+      gates-taken = d;
+      late-taken = g;
+      symbols-taken = s;
+      whole = taken-is (fileOf h inputs latches output gates behind) f e6;
+    }

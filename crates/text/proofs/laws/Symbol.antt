@@ -47,7 +47,14 @@ space-is-no-digit = refl
 symbol-at-good : (h : Header) (seen : List Symbol) (s : Symbol) → Good h seen s → symbolAt h seen (s .letter) (s .position) (32 ∷ s .name ++ (10 ∷ [])) ≡ some s
 unfolding symbolAt
 symbol-at-good h seen s g =
-    rw (run-append isNameByte (s .name) (10 ∷ []) (g .bytes) end-is-no-name, drop-append-seam (s .name) (10 ∷ []), same-bytes-refl (10 ∷ []), g .long, lt-ltb (s .position) (positions h (s .letter)) (g .within), g .fresh)
+    rw (
+      run-append isNameByte (s .name) (10 ∷ []) (g .bytes) end-is-no-name,
+      drop-append-seam (s .name) (10 ∷ []),
+      same-bytes-refl (10 ∷ []),
+      g .long,
+      lt-ltb (s .position) (positions h (s .letter)) (g .within),
+      g .fresh,
+    )
 
 pub symbol-of-line : (h : Header) (seen : List Symbol) (s : Symbol) → Good h seen s → symbolOf h seen (symbolLine s) ≡ some s
 unfolding symbolOf symbolLine
@@ -55,7 +62,8 @@ symbol-of-line h seen s g =
     rw (number-decimal (s .position) (32 ∷ s .name ++ (10 ∷ [])) (g .digits) space-is-no-digit, symbolOf) (symbol-at-good h seen s g)
 
 -- what a good symbol line holds
-symbol-at-is : (h : Header) (seen : List Symbol) (letter position : ℕ) (text : List ℕ) (s : Symbol) → position < 10 ^ 7 → symbolAt h seen letter position text ≡ some s → Good h seen s × (s .letter ≡ letter) × (s .position ≡ position) × (text ≡ 32 ∷ s .name ++ (10 ∷ []))
+symbol-at-is : (h : Header) (seen : List Symbol) (letter position : ℕ) (text : List ℕ) (s : Symbol) → position < 10 ^ 7
+    → symbolAt h seen letter position text ≡ some s → Good h seen s × (s .letter ≡ letter) × (s .position ≡ position) × (text ≡ 32 ∷ s .name ++ (10 ∷ []))
 unfolding symbolAt
 symbol-at-is h seen letter position text s d e = by test refl
   where
@@ -77,7 +85,8 @@ symbol-at-is h seen letter position text s d e = by test refl
     test : Bool
     test = first && ends && isName name && below && other
 
-    is-symbol : record { letter = letter; position = position; name = name } ≡ s → (first ≡ true) → (ends ≡ true) → (isName name ≡ true) → (below ≡ true) → (other ≡ true) → Good h seen s × (s .letter ≡ letter) × (s .position ≡ position) × (text ≡ 32 ∷ s .name ++ (10 ∷ []))
+    is-symbol : record { letter = letter; position = position; name = name } ≡ s → (first ≡ true) → (ends ≡ true) → (isName name ≡ true)
+        → (below ≡ true) → (other ≡ true) → Good h seen s × (s .letter ≡ letter) × (s .position ≡ position) × (text ≡ 32 ∷ s .name ++ (10 ∷ []))
     is-symbol same a b c f g =
         let spaced : text ≡ 32 ∷ drop 1 text = starts 32 text (eqb-true _ _ a) (omega arith) in
         let tail : drop (length name) (drop 1 text) ≡ 10 ∷ [] = ap {B = List ℕ} (λ t. drop (suc (length name)) t) (sym spaced) ∙ same-bytes-equal _ _ b in
@@ -129,7 +138,11 @@ unfolding symbolLine
 symbol-line-is-line h seen s g =
     record {
       front = s .letter ∷ decimal (s .position) ++ (32 ∷ s .name);
-      each = (letter-inside h (s .letter) (omega (arith, g .within)), each-append inside (decimal (s .position)) (32 ∷ s .name) (decimal-inside (s .position)) (refl, each-weaker isNameByte inside name-inside (s .name) (g .bytes)));
+      each = (
+        letter-inside h (s .letter) (omega (arith, g .within)),
+        each-append inside (decimal (s .position)) (32 ∷ s .name)
+            (decimal-inside (s .position)) (refl, each-weaker isNameByte inside name-inside (s .name) (g .bytes)),
+      );
       whole = ap {B = List ℕ} (λ t. s .letter ∷ t) (sym (append-assoc (decimal (s .position)) (32 ∷ s .name) (10 ∷ [])));
     }
 
@@ -145,13 +158,16 @@ symbol-line-is-no-comment s = by (sameBytes (symbolLine s) (ascii "c\n")) refl
     by false e = e
 
 -- what stands behind the gates is read back
-pub symbol-lines-good : (h : Header) (ss : List Symbol) (place : ℕ) (seen : List Symbol) (comment : Option (List ℕ)) → AllGood h seen ss → symbolLines h place seen (lines (flatMap symbolLine ss ++ commentText comment)) ≡ taken (record { symbols = seen ++ ss; comment = comment })
+pub symbol-lines-good : (h : Header) (ss : List Symbol) (place : ℕ) (seen : List Symbol) (comment : Option (List ℕ)) → AllGood h seen ss
+    → symbolLines h place seen (lines (flatMap symbolLine ss ++ commentText comment)) ≡ taken (record { symbols = seen ++ ss; comment = comment })
 unfolding symbolLines lines before commentText flatMap isComment sameBytes orBadSymbol
 symbol-lines-good h [] place seen none g = λ x. taken (record { symbols = sym (append-nil seen) x; comment = none })
 symbol-lines-good h [] place seen (some bytes) g = λ x. taken (record { symbols = sym (append-nil seen) x; comment = some (flat-lines bytes x) })
 symbol-lines-good h (s ∷ ss) place seen comment g =
     let rest : List ℕ = flatMap symbolLine ss ++ commentText comment in
-    let first : lines (symbolLine s ++ flatMap symbolLine ss ++ commentText comment) ≡ symbolLine s ∷ lines rest = ap lines (append-assoc (symbolLine s) (flatMap symbolLine ss) (commentText comment)) ∙ lines-first (symbolLine s) rest (symbol-line-is-line h seen s (g .0)) in
+    let first : lines (symbolLine s ++ flatMap symbolLine ss ++ commentText comment) ≡ symbolLine s ∷ lines rest =
+    ap lines (append-assoc (symbolLine s) (flatMap symbolLine ss) (commentText comment))
+    ∙ lines-first (symbolLine s) rest (symbol-line-is-line h seen s (g .0)) in
     rw (first, symbolLines, symbol-line-is-no-comment s, symbolLines, symbol-of-line h seen s (g .0))
     (symbol-lines-good h ss (suc place) (seen ++ (s ∷ [])) comment (g .1)
     ∙ λ x. taken (record { symbols = append-assoc seen (s ∷ []) ss x; comment = comment }))
@@ -163,7 +179,8 @@ pub record SymbolsAre (h : Header) (seen : List Symbol) (ls : List (List ℕ)) (
   pub text : flatMap (λ l. l) ls ≡ flatMap symbolLine symbols ++ commentText (behind .comment)
   pub good : AllGood h seen symbols
 
-comment-are : (h : Header) (seen : List Symbol) (line : List ℕ) (rest : List (List ℕ)) (behind : Symbols) → isComment line ≡ true → record { symbols = seen; comment = some (flatMap (λ l. l) rest) } ≡ behind → SymbolsAre h seen (line ∷ rest) behind
+comment-are : (h : Header) (seen : List Symbol) (line : List ℕ) (rest : List (List ℕ)) (behind : Symbols) → isComment line ≡ true
+    → record { symbols = seen; comment = some (flatMap (λ l. l) rest) } ≡ behind → SymbolsAre h seen (line ∷ rest) behind
 unfolding commentText flatMap isComment
 comment-are h seen line rest behind c same =
     rw (← same)
@@ -174,7 +191,8 @@ comment-are h seen line rest behind c same =
       good = tt;
     })
 
-one-symbol-more : (h : Header) (seen : List Symbol) (line : List ℕ) (rest : List (List ℕ)) (behind : Symbols) (s : Symbol) → Good h seen s → line ≡ symbolLine s → SymbolsAre h (seen ++ (s ∷ [])) rest behind → SymbolsAre h seen (line ∷ rest) behind
+one-symbol-more : (h : Header) (seen : List Symbol) (line : List ℕ) (rest : List (List ℕ)) (behind : Symbols) (s : Symbol) → Good h seen s
+    → line ≡ symbolLine s → SymbolsAre h (seen ++ (s ∷ [])) rest behind → SymbolsAre h seen (line ∷ rest) behind
 unfolding flatMap
 one-symbol-more h seen line rest behind s g l a =
     record {
@@ -184,7 +202,8 @@ one-symbol-more h seen line rest behind s g l a =
       good = (g, a .good);
     }
 
-pub symbol-lines-are : (h : Header) (place : ℕ) (seen : List Symbol) (ls : List (List ℕ)) (behind : Symbols) → symbolLines h place seen ls ≡ taken behind → SymbolsAre h seen ls behind
+pub symbol-lines-are : (h : Header) (place : ℕ) (seen : List Symbol) (ls : List (List ℕ)) (behind : Symbols)
+    → symbolLines h place seen ls ≡ taken behind → SymbolsAre h seen ls behind
 unfolding symbolLines commentText flatMap orBadSymbol
 symbol-lines-are h place seen [] behind e =
     let same : record { symbols = seen; comment = none } ≡ behind = (cc) in
@@ -194,7 +213,8 @@ symbol-lines-are h place seen (line ∷ rest) behind e = by (isComment line) ref
     Next : Type 0
     Next = (s : Symbol) → symbolLines h (suc place) (seen ++ (s ∷ [])) rest ≡ taken behind → SymbolsAre h (seen ++ (s ∷ [])) rest behind
 
-    with-symbol : (o : Option Symbol) → symbolOf h seen line ≡ o → (orBadSymbol place o >>= λ s. symbolLines h (suc place) (seen ++ (s ∷ [])) rest) ≡ taken behind → Next → SymbolsAre h seen (line ∷ rest) behind
+    with-symbol : (o : Option Symbol) → symbolOf h seen line ≡ o → (orBadSymbol place o >>= λ s. symbolLines h (suc place) (seen ++ (s ∷ [])) rest) ≡
+        taken behind → Next → SymbolsAre h seen (line ∷ rest) behind
     with-symbol none f k ih = absurd (refused-is-not-taken badSymbol place behind k)
     with-symbol (some s) f k ih = let (g, l) = symbol-of-is h seen line s f in one-symbol-more h seen line rest behind s g l (ih s k)
 

@@ -59,12 +59,14 @@ pub fresh-apart : (s t : Symbol) → names (s .letter) (s .position) t ≡ false
 unfolding names
 fresh-apart s t e l p = eqb-false (t .position) (s .position) (rw (eq-eqb (t .letter) (s .letter) l) at e) p
 
-position-digits : (f : TextFile) (s : Symbol) → length (f .inputs) + length (f .latches) + length (f .gates) ≤ f .largest → 2 * f .largest + 1 < 10 ^ 7 → Placed f s → s .position < 10 ^ 7
+position-digits : (f : TextFile) (s : Symbol) → length (f .inputs) + length (f .latches) + length (f .gates) ≤ f .largest → 2 * f .largest + 1 < 10 ^ 7
+    → Placed f s → s .position < 10 ^ 7
 position-digits f s r d (ofInput e h) = omega arith
 position-digits f s r d (ofLatch e h) = omega arith
 position-digits f s r d (ofOutput e h) = omega arith
 
-pub symbols-good : (f : TextFile) (seen ss : List Symbol) → length (f .inputs) + length (f .latches) + length (f .gates) ≤ f .largest → 2 * f .largest + 1 < 10 ^ 7 → All (SymbolLine f) ss → Fresh Apart seen ss → AllGood (headerFor f) seen ss
+pub symbols-good : (f : TextFile) (seen ss : List Symbol) → length (f .inputs) + length (f .latches) + length (f .gates) ≤ f .largest
+    → 2 * f .largest + 1 < 10 ^ 7 → All (SymbolLine f) ss → Fresh Apart seen ss → AllGood (headerFor f) seen ss
 unfolding isName
 symbols-good f seen [] r d a p = tt
 symbols-good f seen (s ∷ ss) r d a p = (
@@ -73,7 +75,8 @@ symbols-good f seen (s ∷ ss) r d a p = (
     bytes = name-bytes (s .name) (a .0 .bytes);
     long = rw (le-leb 1 (length (s .name)) (a .0 .some), le-leb (length (s .name)) 200 (a .0 .most));
     within = placed-within f s (a .0 .placed);
-    fresh = none-among (names (s .letter) (s .position)) seen (all-weaker (λ t. Apart t s) (λ t. names (s .letter) (s .position) t ≡ false) (apart-fresh s) seen (p .0));
+    fresh = none-among (names (s .letter) (s .position)) seen (all-weaker (λ t. Apart t s) (λ t. names (s .letter) (s .position) t ≡ false)
+        (apart-fresh s) seen (p .0));
   },
   symbols-good f (seen ++ (s ∷ [])) ss r d (a .1) (p .1),
 )
@@ -93,5 +96,9 @@ good-symbols f seen (s ∷ ss) g =
         },
         lines,
       ),
-      (all-weaker (λ t. names (s .letter) (s .position) t ≡ false) (λ t. Apart t s) (fresh-apart s) seen (among-none (names (s .letter) (s .position)) seen (g .0 .fresh)), apart),
+      (
+        all-weaker (λ t. names (s .letter) (s .position) t ≡ false) (λ t. Apart t s) (fresh-apart s) seen
+            (among-none (names (s .letter) (s .position)) seen (g .0 .fresh)),
+        apart,
+      ),
     )

@@ -30,28 +30,48 @@ known-used defined place (l ∷ ls) u e =
     let (v, here, there) = then-taken (refuseIf (unknown defined l) notDefined place) (used defined (suc place) ls) u e in
     (known-of defined l (refuse-none (unknown defined l) notDefined place v here), known-used defined (suc place) ls u there)
 
-pub used-unknown : (defined : List ℕ) (start : ℕ) (ls : List ℕ) (number place : ℕ) → used defined start ls ≡ refused number place → Unknown defined start ls number place
+pub used-unknown : (defined : List ℕ) (start : ℕ) (ls : List ℕ) (number place : ℕ) → used defined start ls ≡ refused number place
+    → Unknown defined start ls number place
 unfolding used refuseIf
 used-unknown defined start [] number place e = absurd (taken-is-not-refused number place tt e)
 used-unknown defined start (l ∷ ls) number place e = by (unknown defined l) refl (used-unknown defined (suc start) ls number place)
   where
-    by : (u : Bool) → unknown defined l ≡ u → (used defined (suc start) ls ≡ refused number place → Unknown defined (suc start) ls number place) → Unknown defined start (l ∷ ls) number place
+    by : (u : Bool) → unknown defined l ≡ u → (used defined (suc start) ls ≡ refused number place → Unknown defined (suc start) ls number place)
+        → Unknown defined start (l ∷ ls) number place
     by true f ih =
         let same : _≡_ {A = Outcome (Unit {0})} (refused notDefined start) (refused number place) = (rw f at e) in
-        record { index = zero; within = omega arith; line = omega (arith, refused-place notDefined start number place same); before = λ j h. absurd (not-suc-le-zero h); fault = unknown-says defined l .0 f; seven = sym (refused-number notDefined start number place same) }
+        record {
+          index = zero;
+          within = omega arith;
+          line = omega (arith, refused-place notDefined start number place same);
+          before =
+              λ j h. absurd (not-suc-le-zero h);
+          fault = unknown-says defined l .0 f;
+          seven = sym (refused-number notDefined start number place same);
+        }
     by false f ih =
         let k : Unknown defined (suc start) ls number place = ih (rw f at e) in
-        record { index = suc (k .index); within = omega (arith, k .within); line = omega (arith, k .line); before = later k; fault = k .fault; seven = k .seven }
+        record {
+          index = suc (k .index);
+          within = omega (arith, k .within);
+          line = omega (arith, k .line);
+          before = later k;
+          fault = k .fault;
+          seven =
+              k .seven;
+        }
       where
         later : (k : Unknown defined (suc start) ls number place) (j : ℕ) → j < suc (k .index) → Known defined (getD (l ∷ ls) j 0)
         later k zero h = known-of defined l f
         later k (suc j) h = k .before j (le-of-suc-le-suc h)
 
-pub unknown-used : (defined : List ℕ) (start : ℕ) (ls : List ℕ) (number place : ℕ) → Unknown defined start ls number place → used defined start ls ≡ refused number place
+pub unknown-used : (defined : List ℕ) (start : ℕ) (ls : List ℕ) (number place : ℕ) → Unknown defined start ls number place
+    → used defined start ls ≡ refused number place
 unfolding used refuseIf
 unknown-used defined start ls number place k = rw (k .seven) (go ls (k .index) start (k .within) (k .line) (k .before) (k .fault))
   where
-    go : (ms : List ℕ) (i s : ℕ) → i < length ms → place ≡ s + i → ((j : ℕ) → j < i → Known defined (getD ms j 0)) → (Known defined (getD ms i 0) → ⊥) → used defined s ms ≡ refused notDefined place
+    go : (ms : List ℕ) (i s : ℕ) → i < length ms → place ≡ s + i → ((j : ℕ) → j < i → Known defined (getD ms j 0)) → (Known defined (getD ms i 0) → ⊥)
+        → used defined s ms ≡ refused notDefined place
     go [] i s h l e f = absurd (not-suc-le-zero h)
     go (m ∷ ms) zero s h l e f = rw (unknown-says defined m .1 f) (let here : s ≡ place = omega (arith, l) in λ x. refused notDefined (here x))
     go (m ∷ ms) (suc i) s h l e f =

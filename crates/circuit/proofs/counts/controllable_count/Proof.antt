@@ -36,12 +36,15 @@ loop-again c =
     let more = c .before .before .loop-test .taken in
     let byte = c .before .byte-at .ensures in
     ⊎-elim
-    (λ w. subst (λ (m : ℕ). Counting (a .input .now) (a .controllable .now) m (l .i + 1)) (sym (w .1)) (counting-one (a .input .now) (a .controllable .now) (l .n) (l .i) (l .inv) more (λ z. w .0 .taken (byte ∙ z))))
-    (λ w. subst (λ (m : ℕ). Counting (a .input .now) (a .controllable .now) m (l .i + 1)) (sym (w .1)) (counting-none (a .input .now) (a .controllable .now) (l .n) (l .i) (l .inv) more (sym byte ∙ w .0 .left)))
+    (λ w. subst (λ (m : ℕ). Counting (a .input .now) (a .controllable .now) m (l .i + 1)) (sym (w .1))
+    (counting-one (a .input .now) (a .controllable .now) (l .n) (l .i) (l .inv) more (λ z. w .0 .taken (byte ∙ z))))
+    (λ w. subst (λ (m : ℕ). Counting (a .input .now) (a .controllable .now) m (l .i + 1)) (sym (w .1))
+    (counting-none (a .input .now) (a .controllable .now) (l .n) (l .i) (l .inv) more (sym byte ∙ w .0 .left)))
     (c .if1 .came)
 
 returns : tie.Need-returns Inv-loop μ-loop
-returns c = let a = c .before .before .before .before .args in counting-end (a .input .now) (a .controllable .now) (c .before .loop .n) (c .before .loop .i) (c .before .loop .inv) (c .loop-test .left)
+returns c = let a = c .before .before .before .before .args in counting-end (a .input .now) (a .controllable .now) (c .before .loop .n)
+    (c .before .loop .i) (c .before .loop .inv) (c .loop-test .left)
 
 pub controllable-count-spec : {M : Type 1} → statement M
 controllable-count-spec =

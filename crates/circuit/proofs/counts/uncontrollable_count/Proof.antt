@@ -13,12 +13,22 @@ controllable-count-requires c κs = search needs
 sub-result : tie.Need-sub-result
 sub-result c =
     let a = c .before .before .before .args in
-    omega (arith, c .controllable-count .ensures, inputs-parted (λ (i : Input). i .controllable) (inputsOf (a .input .now) (a .controllable .now)), length-inputs (a .input .now) (a .controllable .now))
+    omega (
+      arith,
+      c .controllable-count .ensures,
+      inputs-parted (λ (i : Input). i .controllable) (inputsOf (a .input .now) (a .controllable .now)),
+      length-inputs (a .input .now) (a .controllable .now),
+    )
 
 returns : tie.Need-returns
 returns c =
     let a = c .before .before .before .args in
-    omega (arith, c .controllable-count .ensures, inputs-parted (λ (i : Input). i .controllable) (inputsOf (a .input .now) (a .controllable .now)), length-inputs (a .input .now) (a .controllable .now))
+    omega (
+      arith,
+      c .controllable-count .ensures,
+      inputs-parted (λ (i : Input). i .controllable) (inputsOf (a .input .now) (a .controllable .now)),
+      length-inputs (a .input .now) (a .controllable .now),
+    )
 
 pub uncontrollable-count-spec : {M : Type 1} → statement M
 uncontrollable-count-spec = tie.close (tie.spec controllable-count-requires sub-result returns)

@@ -21,7 +21,8 @@ returns : tie.Need-returns
 returns c = search needs
 
 returns-2 : tie.Need-returns-2
-returns-2 c = let a = c .before .before .args in sym (ap literalOf (List·getD-eq-default (a .literals .now) 0 {n = a .i} (search needs)) ∙ literal-small 0 (omega arith))
+returns-2 c = let a = c .before .before .args in sym (ap literalOf (List·getD-eq-default (a .literals .now) 0 {n = a .i} (search needs))
+    ∙ literal-small 0 (omega arith))
 
 pub literal-at-spec : {M : Type 1} → statement M
 literal-at-spec =
