@@ -1,10 +1,10 @@
 // The two kinds of certificate (01, "The certificate"): head and contents of each record, one behind the other.
 use crate::Certified;
 use crate::tables::put_attacks;
-use crate::tables::put_head;
 use crate::tables::put_region;
 use circuit::Refusal;
 use put::put_bytes;
+use put::put_head;
 use records::ATTACKS;
 use records::CIRCUIT;
 use records::HEAD;
@@ -46,9 +46,9 @@ pub(crate) fn certify_replies<'a>(
     }
     let first = put_head(out, 0, CIRCUIT, file.len());
     let circuit = first + put_bytes(out, first, file);
-    let second = put_head(out, circuit, REGION, region);
+    let second = circuit + put_head(out, circuit, REGION, region);
     let regioned = put_region(out, second, ranks, states);
-    let third = put_head(out, regioned, REPLIES, n);
+    let third = regioned + put_head(out, regioned, REPLIES, n);
     let behind = third + put_bytes(out, third, &replies[..n]);
     Certified::Realizable(behind)
 }
@@ -72,7 +72,7 @@ pub(crate) fn certify_attacks<'a>(
     }
     let first = put_head(out, 0, CIRCUIT, file.len());
     let circuit = first + put_bytes(out, first, file);
-    let second = put_head(out, circuit, ATTACKS, 3 * states);
+    let second = circuit + put_head(out, circuit, ATTACKS, 3 * states);
     let behind = put_attacks(out, second, ranks, attacks, states);
     Certified::Unrealizable(behind)
 }

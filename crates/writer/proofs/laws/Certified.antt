@@ -3,10 +3,9 @@
 use Prim.Native.Nat.{ℕ, _<_, _≤_}
 use native.Mathlib.Omega.{arith}
 use mathlib.Core.Bool.{true, false}
-use mathlib.Core.List.{List, _++_}
+use mathlib.Core.List.{List}
 use mathlib.Core.Path.{_≡_, ap, _∙_, subst}
 use lib.ListN.{length}
-use Rattle.bits.specs.Digits.{digits}
 use Rattle.bits.specs.Wrote.{Wrote}
 use Rattle.bits.proofs.laws.Wrote.{sets-front, wrote-both}
 use Rattle.circuit.specs.Answer.{bufferAfter, noRoom}
@@ -17,6 +16,7 @@ use Rattle.game.specs.Attack.{attack}
 use Rattle.game.specs.CircuitGame.{circuitGame, isRealizable}
 use Rattle.game.specs.Rank.{rank, inRegion}
 use Rattle.game.specs.Reply.{reply}
+use Rattle.put.specs.Head.{headOf}
 use Rattle.records.specs.AttackTable.{attackBytes}
 use Rattle.records.specs.Record.{recordOf, circuitKind, regionKind, replyKind, attackKind}
 use Rattle.records.specs.RegionBits.{regionBytes}
@@ -27,9 +27,9 @@ use Rattle.writer.specs.Answer.{Verdict, certifiedOutcome, certificateFo
 use Rattle.writer.specs.Certificate.{replyCertificate, attackCertificate, certificateOf}
 
 -- a head and the contents behind it
-pub wrote-record : (kind n : ℕ) {at mid next : ℕ} {contents before between after : List ℕ} → Wrote (digits 256 4 n ++ digits 256 2 kind) at before between mid → n ≡ length contents → Wrote contents mid between after next → Wrote (recordOf kind contents) at before after next
+pub wrote-record : (kind n : ℕ) {at mid next : ℕ} {contents before between after : List ℕ} → Wrote (headOf kind n) at before between mid → n ≡ length contents → Wrote contents mid between after next → Wrote (recordOf kind contents) at before after next
 unfolding recordOf
-wrote-record kind n {at} {mid} {before = before} {between} h e w = wrote-both (subst (λ (k : ℕ). Wrote (digits 256 4 k ++ digits 256 2 kind) at before between mid) e h) w
+wrote-record kind n {at} {mid} {before = before} {between} h e w = wrote-both (subst (λ (k : ℕ). Wrote (headOf kind k) at before between mid) e h) w
 
 pub replies-of : (file : List ℕ) (c : Circuit) → isRealizable c ≡ true → certificateOf file c ≡ replyCertificate file c
 unfolding certificateOf
