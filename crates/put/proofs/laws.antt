@@ -1,2 +1,4 @@
+pub mod Gap
+pub mod Gapped
 pub mod Head
 pub mod Part
