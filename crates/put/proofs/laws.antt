@@ -2,3 +2,4 @@ pub mod Gap
 pub mod Gapped
 pub mod Head
 pub mod Part
+pub mod Turns

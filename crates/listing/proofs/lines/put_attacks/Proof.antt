@@ -2,7 +2,7 @@
 use Prim.Native.Nat.{_-_}
 use native.Mathlib.Omega.{arith}
 use Rattle.listing.specs.SolvedText.{attackText}
-use Rattle.listing.proofs.laws.Turns.{Turns, turns-start, turns-more, turns-end}
+use Rattle.put.proofs.laws.Turns.{Turns, turns-start, turns-more, turns-end}
 use Rattle.listing.proofs.lines.put_attacks.Statement.{statement}
 use Rattle.listing.proofs.lines.put_attacks.Tie as tie
 

@@ -2,7 +2,7 @@
 use Prim.Native.Nat.{_-_, _^_}
 use native.Mathlib.Omega.{arith}
 use Rattle.listing.specs.SolvedText.{replyText}
-use Rattle.listing.proofs.laws.Turns.{Turns, turns-start, turns-more, turns-end}
+use Rattle.put.proofs.laws.Turns.{Turns, turns-start, turns-more, turns-end}
 use Rattle.listing.proofs.lines.put_replies.Statement.{statement}
 use Rattle.listing.proofs.lines.put_replies.Tie as tie
 
