@@ -17,7 +17,7 @@ ghost use Rattle.circuit.specs.Circuit.{Circuit};
 ghost use Rattle.circuit.specs.Limits.{base};
 ghost use Rattle.circuit.specs.Outcome.{taken};
 ghost use Rattle.writer.specs.Answer.{CertifiedAs};
-ghost use Rattle.writer.specs.Solved.{Replied, Attacked};
+ghost use Rattle.writer.specs.contracts.Solved.{Replied, Attacked};
 
 // 10: lent buffer shorter than what must be written (01, "The numbers").
 const NO_ROOM: u8 = 10;

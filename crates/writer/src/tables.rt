@@ -12,7 +12,7 @@ ghost use Rattle.circuit.specs.Limits.{base};
 ghost use Rattle.keeping.specs.RankList.{ranksIn};
 ghost use Rattle.solver.specs.Over.{rankZero};
 ghost use Rattle.bits.specs.BitBytes.{bitBytes};
-ghost use Rattle.writer.specs.Rows.{attackRow};
+ghost use Rattle.writer.specs.contracts.Rows.{attackRow};
 
 // The region, a byte for eight states.
 pub(crate) fn put_region(out: &mut [u8], at: usize, ranks: &[u16], states: usize) -> usize

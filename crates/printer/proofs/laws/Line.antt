@@ -10,7 +10,7 @@ use Rattle.text.specs.Number.{decimal}
 use Rattle.text.specs.Symbol.{inputLetter, prefix}
 use Rattle.text.specs.Written.{numberLine, symbolLine}
 use Rattle.circuit.specs.Stored.{literalOf}
-use Rattle.printer.specs.Line.{inputLine, latchLine, gateLine, nameLine}
+use Rattle.printer.specs.contracts.Line.{inputLine, latchLine, gateLine, nameLine}
 
 -- the last number of a line, and one before others
 pub wrote-last : (n : ℕ) {at next : ℕ} {before after : List ℕ} → Wrote (decimal n ++ (10 ∷ [])) at before after next → Wrote (numberLine (n ∷ [])) at before after next

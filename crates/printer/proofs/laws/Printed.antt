@@ -20,7 +20,7 @@ use Rattle.decimal.proofs.laws.InTurn.{flat-map-table}
 use Rattle.text.specs.Header.{word}
 use Rattle.text.specs.Printed.{printedSymbols, printedFile, printed}
 use Rattle.text.specs.Written.{numberLine, symbolLine, commentText, textOf}
-use Rattle.printer.specs.Line.{inputLine, latchLine, gateLine, nameLine}
+use Rattle.printer.specs.contracts.Line.{inputLine, latchLine, gateLine, nameLine}
 use Rattle.printer.proofs.laws.Tables.{flat-map-map, symbols-table, symbolText}
 
 -- what lies below a length that is taken is taken

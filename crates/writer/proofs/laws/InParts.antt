@@ -26,8 +26,8 @@ use Rattle.solver.specs.Over.{rankZero}
 use Rattle.writer.specs.Answer.{CertifiedAs}
 use Rattle.writer.specs.Certificate.{replyCertificate, attackCertificate}
 use Rattle.bits.specs.BitBytes.{bitBytes}
-use Rattle.writer.specs.Rows.{attackRow}
-use Rattle.writer.specs.Solved.{Replied, Attacked}
+use Rattle.writer.specs.contracts.Rows.{attackRow}
+use Rattle.writer.specs.contracts.Solved.{Replied, Attacked}
 use Rattle.writer.specs.declared.Certified.the-variants.{Realizable, Unrealizable, Refused}
 use Rattle.writer.proofs.laws.Certified.{wrote-record, wrote-replies, wrote-attacks, certified-replies, certified-attacks, certified-refused, replies-of, attacks-of}
 use Rattle.writer.proofs.laws.Length.{reply-length, attack-length}

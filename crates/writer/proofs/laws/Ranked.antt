@@ -18,7 +18,7 @@ use Rattle.solver.specs.Solution.{replyTable, attackTable, solutionOf}
 use Rattle.solver.specs.declared.Solution.{Solution}
 use Rattle.solver.specs.declared.counts.Counts.{Counts}
 use Rattle.solver.proofs.laws.Solution.{replies-long}
-use Rattle.writer.specs.Solved.{Solved, Replied, Attacked}
+use Rattle.writer.specs.contracts.Solved.{Solved, Replied, Attacked}
 use Rattle.region.proofs.laws.Verdict.{realizable-at-zero}
 
 -- as many numbers as n bits make are few

@@ -33,8 +33,8 @@ use Rattle.solver.proofs.laws.RankTable.{rank-in-table}
 use Rattle.solver.proofs.laws.Solution.{replies-front, attack-in-table}
 use Rattle.bits.specs.BitBytes.{bitBytes}
 use Rattle.bits.proofs.laws.BitBytes.{bit-bytes-same}
-use Rattle.writer.specs.Rows.{attackRow}
-use Rattle.writer.specs.Solved.{Solved, Replied, Attacked}
+use Rattle.writer.specs.contracts.Rows.{attackRow}
+use Rattle.writer.specs.contracts.Solved.{Solved, Replied, Attacked}
 
 module _ (c : Circuit) (states : ℕ) (ranks : List ℕ) (solved : Solved c states ranks) where
   few : circuitGame c .states ≤ 2 ^ base .latches

@@ -7,7 +7,7 @@ use Rattle.bits.specs.Digits.{digits}
 use Rattle.bits.specs.Wrote.{Wrote}
 use Rattle.put.proofs.laws.Turns.{Turns, turns-more}
 use Rattle.records.proofs.laws.Rows.{length-row}
-use Rattle.writer.specs.Rows.{attackRow}
+use Rattle.writer.specs.contracts.Rows.{attackRow}
 
 module _ (ranks attacks : ℕ → ℕ) (n at rank attack : ℕ) {mid next i : ℕ} {before between after : List ℕ} where
   pub rows-more :

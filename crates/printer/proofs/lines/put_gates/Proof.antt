@@ -1,8 +1,8 @@
 -- `printer::lines::put_gates` writes the gate lines: each turn writes one more behind those before it. Assumes nothing.
 use Prim.Native.Nat.{_-_}
 use native.Mathlib.Omega.{arith}
-use Rattle.printer.specs.Line.{gateLine}
-use Rattle.printer.specs.Line.{longestLine}
+use Rattle.printer.specs.contracts.Line.{gateLine}
+use Rattle.printer.specs.contracts.Line.{longestLine}
 use Rattle.put.proofs.laws.Turns.{Turns, turns-start, turns-more, turns-end}
 use Rattle.printer.proofs.lines.put_gates.Statement.{statement}
 use Rattle.printer.proofs.lines.put_gates.Tie as tie

@@ -1,9 +1,9 @@
 -- `printer::lines::put_inputs` writes the input lines: each turn writes one more behind those before it. Assumes nothing.
 use Prim.Native.Nat.{_-_}
 use native.Mathlib.Omega.{arith}
-use Rattle.printer.specs.Line.{inputLine}
+use Rattle.printer.specs.contracts.Line.{inputLine}
 use Rattle.printer.proofs.laws.Line.{wrote-input}
-use Rattle.printer.specs.Line.{longestLine}
+use Rattle.printer.specs.contracts.Line.{longestLine}
 use Rattle.put.proofs.laws.Turns.{Turns, turns-start, turns-more, turns-end}
 use borrow.Author.Needs.{needs}
 use Rattle.printer.proofs.lines.put_inputs.Statement.{statement}

@@ -1,8 +1,8 @@
 -- `printer::lines::put_latches` writes the latch lines: each turn writes one more behind those before it. Assumes nothing.
 use Prim.Native.Nat.{_-_}
 use native.Mathlib.Omega.{arith}
-use Rattle.printer.specs.Line.{latchLine}
-use Rattle.printer.specs.Line.{longestLine}
+use Rattle.printer.specs.contracts.Line.{latchLine}
+use Rattle.printer.specs.contracts.Line.{longestLine}
 use Rattle.put.proofs.laws.Turns.{Turns, turns-start, turns-more, turns-end}
 use Rattle.printer.proofs.lines.put_latches.Statement.{statement}
 use Rattle.printer.proofs.lines.put_latches.Tie as tie

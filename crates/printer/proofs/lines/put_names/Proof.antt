@@ -1,8 +1,8 @@
 -- `printer::lines::put_names` writes the symbols of the controllable inputs: each turn writes one more behind those before it. Assumes nothing.
 use Prim.Native.Nat.{_-_}
 use native.Mathlib.Omega.{arith}
-use Rattle.printer.specs.Line.{nameLine}
-use Rattle.printer.specs.Line.{longestLine}
+use Rattle.printer.specs.contracts.Line.{nameLine}
+use Rattle.printer.specs.contracts.Line.{longestLine}
 use Rattle.put.proofs.laws.Turns.{Turns, turns-start, turns-more, turns-end}
 use Rattle.printer.proofs.lines.put_names.Statement.{statement}
 use Rattle.printer.proofs.lines.put_names.Tie as tie

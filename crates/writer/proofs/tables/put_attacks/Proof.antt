@@ -3,7 +3,7 @@ use Prim.Native.Nat.{_-_}
 use native.Mathlib.Omega.{arith}
 use lib.ListN.{getD}
 use Rattle.keeping.specs.RankList.{ranksIn}
-use Rattle.writer.specs.Rows.{attackRow}
+use Rattle.writer.specs.contracts.Rows.{attackRow}
 use Rattle.put.proofs.laws.Turns.{Turns, turns-start, turns-end}
 use Rattle.writer.proofs.laws.Turns.{rows-more}
 use borrow.Author.Needs.{needs}
