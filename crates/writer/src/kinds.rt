@@ -34,7 +34,8 @@ pub(crate) fn certify_replies<'a>(
     requires { ⌜ states ≤ 2 ^ base .latches ⌝ }
     requires { ⌜ readings ≤ 2 ^ base .uncontrollable ⌝ }
     requires { ⌜ length (now replies) ≡ 2 ^ base .latches * 2 ^ base .uncontrollable ⌝ }
-    ensures { λ r. ⌜ ((c : Circuit) → Replied c states readings (now (ranks .entry)) (now (replies .entry)) → CertifiedAs (now (file .entry)) (taken c) (now (out .entry)) (now (out .exit)) r) ⌝ }
+    ensures { λ r. ⌜ ((c : Circuit) → Replied c states readings (now (ranks .entry)) (now (replies .entry))
+        → CertifiedAs (now (file .entry)) (taken c) (now (out .entry)) (now (out .exit)) r) ⌝ }
 {
     let region = (states + 7) / 8;
     let n = states * readings;
@@ -62,7 +63,8 @@ pub(crate) fn certify_attacks<'a>(
     out: &mut [u8],
 ) -> Certified
     requires { ⌜ states ≤ 2 ^ base .latches ⌝ }
-    ensures { λ r. ⌜ ((c : Circuit) → Attacked c states (now (ranks .entry)) (now (attacks .entry)) → CertifiedAs (now (file .entry)) (taken c) (now (out .entry)) (now (out .exit)) r) ⌝ }
+    ensures { λ r. ⌜ ((c : Circuit) → Attacked c states (now (ranks .entry)) (now (attacks .entry))
+        → CertifiedAs (now (file .entry)) (taken c) (now (out .entry)) (now (out .exit)) r) ⌝ }
 {
     if out.len() < 2 * HEAD + file.len() + 3 * states {
         return Certified::Refused(Refusal {

@@ -35,7 +35,8 @@ pub(crate) fn put_attacks<'a>(
 ) -> usize
     requires { ⌜ at ≤ 2 ^ 63 ⌝ }
     requires { ⌜ states ≤ 2 ^ base .latches ⌝ }
-    ensures { λ r. ⌜ Wrote (inTurn (attackRow (ranksIn (now (ranks .entry))) (λ s. getD (now (attacks .entry)) s 0)) states) at (now (out .entry)) (now (out .exit)) r ⌝ }
+    ensures { λ r. ⌜ Wrote (inTurn (attackRow (ranksIn (now (ranks .entry))) (λ s. getD (now (attacks .entry)) s 0)) states) at (now (out .entry))
+        (now (out .exit)) r ⌝ }
 {
     let mut behind = at;
     let mut s = 0;

@@ -9,7 +9,9 @@ use Rattle.below.proofs.laws.Table.{length-table}
 use Rattle.bits.specs.Wrote.{Wrote}
 use Rattle.circuit.specs.Limits.{base}
 
-pub few-replies : (states readings : ℕ) → states ≤ 2 ^ base .latches → readings ≤ 2 ^ base .uncontrollable → states * readings ≤ 2 ^ base .latches * 2 ^ base .uncontrollable
+pub few-replies :
+    (states readings : ℕ) → states ≤ 2 ^ base .latches → readings ≤ 2 ^ base .uncontrollable
+    → states * readings ≤ 2 ^ base .latches * 2 ^ base .uncontrollable
 few-replies states readings h l = mul-le-mul h l
 
 -- behind a table

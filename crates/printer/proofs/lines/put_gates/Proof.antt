@@ -32,7 +32,8 @@ loop-again c =
     let here = c .before .before .before .before .before in
     let a = here .before .before .before .before .before .args in
     let w = c .before .before .put-gate .ensures in
-    turns-more (gateLine (a .gate .now) (a .left .now) (a .right .now)) longestLine (a .n) (a .at) (here .loop .inv) (c .before .before .before .before .loop-test .taken) (w .0) (w .1)
+    turns-more (gateLine (a .gate .now) (a .left .now) (a .right .now)) longestLine (a .n) (a .at) (here .loop .inv)
+    (c .before .before .before .before .loop-test .taken) (w .0) (w .1)
 
 same-length : tie.Need-same-length Inv-loop μ-loop
 same-length c = c .before .loop .inv .wrote .long
