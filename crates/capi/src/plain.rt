@@ -12,14 +12,14 @@ use circuit::Written;
 use step::Stepped;
 use writer::Certified;
 ghost use mathlib.Core.Path.{_≡_};
-ghost use lib.ListN.{take};
 ghost use Rattle.circuit.specs.Answer.{writtenOutcome};
 ghost use Rattle.circuit.specs.Outcome.{taken, refused};
-ghost use Rattle.circuit.specs.Stored.{lent, meant};
+ghost use Rattle.circuit.specs.Stored.{meant};
 ghost use Rattle.checker.specs.Answer.{checkedOutcome};
 ghost use Rattle.records.specs.Record.{cut};
 ghost use Rattle.writer.specs.Answer.{certifiedOutcome};
 ghost use Rattle.capi.specs.Plain.{readAnswer, stepAnswer, certifyAnswer, checkAnswer, printAnswer, circuitPart};
+ghost use Rattle.capi.specs.contracts.Counted.{CountedAs};
 
 pub(crate) fn read_refused(refusal: Refusal) -> ReadAnswer
     ensures { λ r. ⌜ r ≡ readAnswer (refused (refusal .number) (refusal .place)) ⌝ }
@@ -36,38 +36,18 @@ pub(crate) fn read_refused(refusal: Refusal) -> ReadAnswer
 pub(crate) fn counts(c: Circuit) -> ReadAnswer
     ensures { λ r. ⌜ r ≡ readAnswer (taken (meant c)) ⌝ }
 {
-    counts_lent(
-        c.largest,
-        c.inputs,
-        &c.input,
-        &c.controllable,
-        c.latches,
-        &c.latch,
-        &c.next,
-        c.output,
-        c.gates,
-        &c.gate,
-        &c.left,
-        &c.right,
-    )
+    counts_lent(c.inputs, &c.input, &c.controllable, c.latches, &c.latch)
 }
 
 // L, U and C of what lies below the counts.
 fn counts_lent<'a>(
-    largest: u16,
     inputs: usize,
     input: &'a [u16],
     controllable: &'a [u8],
     latches: usize,
     latch: &'a [u16],
-    next: &'a [u16],
-    output: u16,
-    gates: usize,
-    gate: &'a [u16],
-    left: &'a [u16],
-    right: &'a [u16],
 ) -> ReadAnswer
-    ensures { λ r. ⌜ r ≡ readAnswer (taken (lent largest (take inputs (now (input .entry))) (now (controllable .entry)) (take latches (now (latch .entry))) (now (next .entry)) output (take gates (now (gate .entry))) (now (left .entry)) (now (right .entry)))) ⌝ }
+    ensures { λ r. ⌜ CountedAs inputs (now (input .entry)) (now (controllable .entry)) latches (now (latch .entry)) r ⌝ }
 {
     let i = below::fewer(inputs, input.len());
     let l = below::fewer(latches, latch.len());

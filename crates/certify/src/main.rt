@@ -1,8 +1,6 @@
 // certify CIRCUIT CERTIFICATE writes the certificate of a circuit file (01, "The certificate") and prints the verdict and how many
 // bytes it has. Of a file that is refused it prints `refused`, number and place, and the certificate's file stays as it was.
-mod place;
-mod save;
-
+use desk::save::save_argument;
 use writer::Certified;
 
 fn main() {
@@ -30,7 +28,7 @@ fn certify(file: &[u8]) {
 // The first n bytes are saved; then the verdict is printed.
 fn keep(certificate: &[u8], n: usize, verdict: &[u8]) {
     let end = desk::front(certificate, n);
-    if save::save_argument(2, &certificate[..end]) {
+    if save_argument(2, &certificate[..end]) {
         desk::print_end(desk::print_number(verdict, end as u64));
     }
 }

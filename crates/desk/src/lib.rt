@@ -1,4 +1,8 @@
-// What the programs share: the arguments, a file read whole, a refusal printed. Trouble is told at once, as one line on standard error.
+// What the programs share: the arguments, a file read whole, a file saved, a refusal printed. Trouble is told at once, as one line on
+// standard error.
+mod place;
+pub mod save;
+
 use circuit::Circuit;
 use circuit::Refusal;
 use libc::STDERR_FILENO;

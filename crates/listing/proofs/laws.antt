@@ -1,5 +1,4 @@
 pub mod Line
-pub mod Turns
 pub mod Listing
 pub mod Solved
 pub mod Front

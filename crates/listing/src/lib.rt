@@ -12,7 +12,7 @@ use solver::counts::Counts;
 ghost use Rattle.circuit.specs.Stored.{meant, solvable};
 ghost use Rattle.game.specs.Listing.{listingOf};
 ghost use Rattle.listing.specs.Page.{PageAs, listingText, pageOf, refusalText};
-ghost use Rattle.listing.specs.SolvedText.{solvedText};
+ghost use Rattle.listing.specs.contracts.SolvedText.{solvedText};
 
 // 10: lent buffer shorter than what must be written (01, "The numbers").
 const NO_ROOM: u8 = 10;

@@ -14,7 +14,7 @@ ghost use Rattle.bits.specs.Wrote.{Wrote};
 ghost use Rattle.circuit.specs.Limits.{base};
 ghost use Rattle.text.specs.Number.{decimal};
 ghost use Rattle.text.specs.Written.{numberLine};
-ghost use Rattle.listing.specs.SolvedText.{attackText, field, inside, replyText};
+ghost use Rattle.listing.specs.contracts.SolvedText.{attackText, field, inside, replyText};
 
 // A line for each state: its number, 1 or 0 for in or out, the replies by reading.
 pub(crate) fn put_replies<'a>(

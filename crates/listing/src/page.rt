@@ -13,7 +13,7 @@ use solver::counts::Counts;
 ghost use Prim.Native.Nat.{_≤_};
 ghost use Rattle.bits.specs.Wrote.{Wrote};
 ghost use Rattle.listing.specs.Page.{refusalText, verdictWord};
-ghost use Rattle.listing.specs.SolvedText.{solvedText};
+ghost use Rattle.listing.specs.contracts.SolvedText.{solvedText};
 
 // The rank of state 0 is the verdict.
 pub(crate) fn put_listing<'a>(

@@ -1,18 +1,14 @@
--- What the making of a net (specs/NetOf.antt) leaves in memory: the names that a list holds, and a net as the code holds it. Assumes nothing.
+-- A net (specs/NetOf.antt) as the code holds it. Assumes nothing.
 use Prim.Native.Nat.{ℕ}
 use mathlib.Core.List.{List}
 use mathlib.Core.Path.{_≡_}
-use lib.ListN.{length, getD}
+use lib.ListN.{length}
 use Rattle.circuit.specs.Stored.{padded}
-use Rattle.net.specs.NetOf.{Names}
 use Rattle.net.specs.declared.Net.{Net}
 
 -- how many numbers the net of a circuit has at most: four, 10 next-state literals and 2 × 1,000 operands
 abbrev pub most : ℕ
 most = 2014
-
-unfoldable pub namesIn : List ℕ → Names
-namesIn names = λ v. getD names v 0
 
 -- the net's numbers, zeros behind them, and how many they are
 pub record MadeAs (net : List ℕ) (made : Net) : Type 0 where

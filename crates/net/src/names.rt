@@ -13,7 +13,7 @@ ghost use Rattle.circuit.specs.Limits.{base};
 ghost use Rattle.circuit.specs.Literal.{variable};
 ghost use Rattle.circuit.specs.Stored.{literalOf, inputsOf, latchesOf};
 ghost use Rattle.net.specs.InOrder.{variables};
-ghost use Rattle.net.specs.Made.{namesIn};
+ghost use Rattle.net.specs.contracts.NamesIn.{namesIn};
 ghost use Rattle.net.specs.NetOf.{name, netLiteral, nameInputs, nameLatches};
 
 // No variable has a name.

@@ -13,7 +13,8 @@ ghost use Rattle.circuit.specs.Circuit.{Latch};
 ghost use Rattle.circuit.specs.Limits.{base};
 ghost use Rattle.circuit.specs.Stored.{latchesOf, gatesOf};
 ghost use Rattle.net.specs.InOrder.{variables};
-ghost use Rattle.net.specs.Made.{namesIn, most};
+ghost use Rattle.net.specs.Made.{most};
+ghost use Rattle.net.specs.contracts.NamesIn.{namesIn};
 ghost use Rattle.net.specs.NetOf.{netLiteral, nameGates, operandsOf};
 
 pub(crate) fn no_numbers() -> [u16; Net::NUMBERS]

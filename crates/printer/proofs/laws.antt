@@ -1,5 +1,4 @@
 pub mod Line
-pub mod Section
 pub mod Tables
 pub mod Printed
 pub mod Front

@@ -23,7 +23,7 @@ ghost use Rattle.text.specs.Header.{word};
 ghost use Rattle.text.specs.Printed.{printed, printedInto};
 ghost use Rattle.text.specs.Written.{numberLine};
 ghost use Rattle.printer.specs.FilePrinted.{filePrinted};
-ghost use Rattle.printer.specs.Line.{longestLine};
+ghost use Rattle.printer.specs.contracts.Line.{longestLine};
 
 // 10: lent buffer shorter than what must be written (01, "The numbers").
 const NO_ROOM: u8 = 10;

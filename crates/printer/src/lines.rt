@@ -12,7 +12,7 @@ ghost use Rattle.bits.specs.Wrote.{Wrote};
 ghost use Rattle.circuit.specs.Limits.{base};
 ghost use Rattle.circuit.specs.Stored.{literalOf};
 ghost use Rattle.text.specs.Number.{decimal};
-ghost use Rattle.printer.specs.Line.{longestNumber, longestLine, inputLine, latchLine, gateLine, nameLine};
+ghost use Rattle.printer.specs.contracts.Line.{longestNumber, longestLine, inputLine, latchLine, gateLine, nameLine};
 
 pub(crate) fn put_inputs(out: &mut [u8], at: usize, input: &[u16], n: usize) -> usize
     requires { ⌜ at < 2 ^ 30 ⌝ }

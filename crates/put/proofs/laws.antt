@@ -1,1 +1,5 @@
+pub mod Gap
+pub mod Gapped
+pub mod Head
 pub mod Part
+pub mod Turns

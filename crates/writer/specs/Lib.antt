@@ -1,4 +1,3 @@
 pub mod Certificate
 pub mod Answer
-pub mod Rows
-pub mod Solved
+pub mod contracts

@@ -1,10 +1,10 @@
 // The two kinds of certificate (01, "The certificate"): head and contents of each record, one behind the other.
 use crate::Certified;
 use crate::tables::put_attacks;
-use crate::tables::put_head;
 use crate::tables::put_region;
 use circuit::Refusal;
 use put::put_bytes;
+use put::put_head;
 use records::ATTACKS;
 use records::CIRCUIT;
 use records::HEAD;
@@ -17,7 +17,7 @@ ghost use Rattle.circuit.specs.Circuit.{Circuit};
 ghost use Rattle.circuit.specs.Limits.{base};
 ghost use Rattle.circuit.specs.Outcome.{taken};
 ghost use Rattle.writer.specs.Answer.{CertifiedAs};
-ghost use Rattle.writer.specs.Solved.{Replied, Attacked};
+ghost use Rattle.writer.specs.contracts.Solved.{Replied, Attacked};
 
 // 10: lent buffer shorter than what must be written (01, "The numbers").
 const NO_ROOM: u8 = 10;
@@ -34,7 +34,8 @@ pub(crate) fn certify_replies<'a>(
     requires { ⌜ states ≤ 2 ^ base .latches ⌝ }
     requires { ⌜ readings ≤ 2 ^ base .uncontrollable ⌝ }
     requires { ⌜ length (now replies) ≡ 2 ^ base .latches * 2 ^ base .uncontrollable ⌝ }
-    ensures { λ r. ⌜ ((c : Circuit) → Replied c states readings (now (ranks .entry)) (now (replies .entry)) → CertifiedAs (now (file .entry)) (taken c) (now (out .entry)) (now (out .exit)) r) ⌝ }
+    ensures { λ r. ⌜ ((c : Circuit) → Replied c states readings (now (ranks .entry)) (now (replies .entry))
+        → CertifiedAs (now (file .entry)) (taken c) (now (out .entry)) (now (out .exit)) r) ⌝ }
 {
     let region = (states + 7) / 8;
     let n = states * readings;
@@ -46,9 +47,9 @@ pub(crate) fn certify_replies<'a>(
     }
     let first = put_head(out, 0, CIRCUIT, file.len());
     let circuit = first + put_bytes(out, first, file);
-    let second = put_head(out, circuit, REGION, region);
+    let second = circuit + put_head(out, circuit, REGION, region);
     let regioned = put_region(out, second, ranks, states);
-    let third = put_head(out, regioned, REPLIES, n);
+    let third = regioned + put_head(out, regioned, REPLIES, n);
     let behind = third + put_bytes(out, third, &replies[..n]);
     Certified::Realizable(behind)
 }
@@ -62,7 +63,8 @@ pub(crate) fn certify_attacks<'a>(
     out: &mut [u8],
 ) -> Certified
     requires { ⌜ states ≤ 2 ^ base .latches ⌝ }
-    ensures { λ r. ⌜ ((c : Circuit) → Attacked c states (now (ranks .entry)) (now (attacks .entry)) → CertifiedAs (now (file .entry)) (taken c) (now (out .entry)) (now (out .exit)) r) ⌝ }
+    ensures { λ r. ⌜ ((c : Circuit) → Attacked c states (now (ranks .entry)) (now (attacks .entry))
+        → CertifiedAs (now (file .entry)) (taken c) (now (out .entry)) (now (out .exit)) r) ⌝ }
 {
     if out.len() < 2 * HEAD + file.len() + 3 * states {
         return Certified::Refused(Refusal {
@@ -72,7 +74,7 @@ pub(crate) fn certify_attacks<'a>(
     }
     let first = put_head(out, 0, CIRCUIT, file.len());
     let circuit = first + put_bytes(out, first, file);
-    let second = put_head(out, circuit, ATTACKS, 3 * states);
+    let second = circuit + put_head(out, circuit, ATTACKS, 3 * states);
     let behind = put_attacks(out, second, ranks, attacks, states);
     Certified::Unrealizable(behind)
 }

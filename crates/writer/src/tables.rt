@@ -1,12 +1,10 @@
-// The records of a certificate (01, "The certificate"). Every writer takes the place where its bytes go and answers the place behind
+// The tables of a certificate (01, "The certificate"). Every writer takes the place where its bytes go and answers the place behind
 // them. The bounds on places only keep their sums from wrapping.
 use bits::bytes::byte_at;
 use put::put_bytes;
-ghost use Prim.Native.Nat.{_+_, _/_, _^_, _<_, _≤_};
+ghost use Prim.Native.Nat.{_+_, _^_, _<_, _≤_};
 ghost use lib.ListN.{getD};
 ghost use mathlib.Core.List.{[], _∷_, _++_};
-ghost use mathlib.Core.Path.{_≡_};
-ghost use Rattle.below.specs.Table.{table};
 ghost use Rattle.bits.specs.Digits.{digits};
 ghost use Rattle.bits.specs.InTurn.{inTurn};
 ghost use Rattle.bits.specs.Wrote.{Wrote};
@@ -14,23 +12,7 @@ ghost use Rattle.circuit.specs.Limits.{base};
 ghost use Rattle.keeping.specs.RankList.{ranksIn};
 ghost use Rattle.solver.specs.Over.{rankZero};
 ghost use Rattle.bits.specs.BitBytes.{bitBytes};
-ghost use Rattle.writer.specs.Rows.{attackRow};
-
-// The length and the kind, little-endian.
-pub(crate) fn put_head(out: &mut [u8], at: usize, kind: u16, length: usize) -> usize
-    requires { ⌜ at ≤ 2 ^ 63 ⌝ }
-    ensures { λ r. ⌜ Wrote (digits 256 4 length ++ digits 256 2 kind) at (now (out .entry)) (now (out .exit)) r ⌝ }
-{
-    let head = [
-        (length % 256) as u8,
-        (length / 256 % 256) as u8,
-        (length / 256 / 256 % 256) as u8,
-        (length / 256 / 256 / 256 % 256) as u8,
-        (kind % 256) as u8,
-        (kind / 256 % 256) as u8,
-    ];
-    at + put_bytes(out, at, &head)
-}
+ghost use Rattle.writer.specs.contracts.Rows.{attackRow};
 
 // The region, a byte for eight states.
 pub(crate) fn put_region(out: &mut [u8], at: usize, ranks: &[u16], states: usize) -> usize
@@ -53,7 +35,8 @@ pub(crate) fn put_attacks<'a>(
 ) -> usize
     requires { ⌜ at ≤ 2 ^ 63 ⌝ }
     requires { ⌜ states ≤ 2 ^ base .latches ⌝ }
-    ensures { λ r. ⌜ Wrote (inTurn (attackRow (ranksIn (now (ranks .entry))) (λ s. getD (now (attacks .entry)) s 0)) states) at (now (out .entry)) (now (out .exit)) r ⌝ }
+    ensures { λ r. ⌜ Wrote (inTurn (attackRow (ranksIn (now (ranks .entry))) (λ s. getD (now (attacks .entry)) s 0)) states) at (now (out .entry))
+        (now (out .exit)) r ⌝ }
 {
     let mut behind = at;
     let mut s = 0;

@@ -18,7 +18,7 @@ use Rattle.keeping.specs.RankList.{ranksIn}
 use Rattle.text.specs.Number.{decimal}
 use Rattle.text.specs.Written.{numberLine}
 use Rattle.listing.specs.Page.{refusalText}
-use Rattle.listing.specs.SolvedText.{field, inside, replyText, attackText}
+use Rattle.listing.specs.contracts.SolvedText.{field, inside, replyText, attackText}
 
 -- the place of a state's first reply fits
 pub few-places : (s readings : ℕ) → s < 2 ^ base .latches → readings ≤ 2 ^ base .latches → s * readings < 2 ^ 31

@@ -12,7 +12,7 @@ use Rattle.circuit.specs.Limits.{base}
 use Rattle.solver.specs.declared.counts.Counts.{Counts}
 use Rattle.text.specs.Written.{numberLine}
 use Rattle.listing.specs.Page.{verdictWord}
-use Rattle.listing.specs.SolvedText.{inside, replyText, attackText, numbers, solvedText}
+use Rattle.listing.specs.contracts.SolvedText.{inside, replyText, attackText, numbers, solvedText}
 
 pub few-numbers : (n m : ℕ) → m ≡ numbers n → m ≤ 2 ^ base .latches
 few-numbers n m e = omega (arith, e, pow-mono {i = min n (base .latches)} {j = base .latches} (omega arith))

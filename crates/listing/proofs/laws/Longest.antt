@@ -34,7 +34,7 @@ use Rattle.text.specs.Number.{decimal}
 use Rattle.text.specs.Written.{numberLine}
 use Rattle.text.proofs.laws.Decimal.{length-decimal-most}
 use Rattle.listing.specs.Page.{PageAs, verdictWord, listingText, refusalText, pageFor, pageOf}
-use Rattle.listing.specs.SolvedText.{field}
+use Rattle.listing.specs.contracts.SolvedText.{field}
 use Rattle.listing.proofs.laws.Line.{line-table}
 use Rattle.listing.proofs.laws.Place.{refusal-small}
 

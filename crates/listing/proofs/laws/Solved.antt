@@ -35,7 +35,7 @@ use Rattle.solver.proofs.laws.RankTable.{rank-in-table}
 use Rattle.solver.proofs.laws.Solution.{attack-in-table}
 use Rattle.text.specs.Written.{numberLine}
 use Rattle.listing.specs.Page.{verdictWord, listingText}
-use Rattle.listing.specs.SolvedText.{inside, replyText, attackText, numbers, solvedText}
+use Rattle.listing.specs.contracts.SolvedText.{inside, replyText, attackText, numbers, solvedText}
 
 zero-or-not : (n : ℕ) → eqb n 0 ≡ not (ltb 0 n)
 zero-or-not n =

@@ -1,7 +1,7 @@
 -- `listing::list_solved` writes where the text's length, counted first, is no more than the buffer's, and refuses else. Assumes nothing.
 use native.Mathlib.Omega.{arith}
 use Rattle.circuit.proofs.laws.Answer.{written-bytes, written-refused}
-use Rattle.listing.specs.SolvedText.{solvedText}
+use Rattle.listing.specs.contracts.SolvedText.{solvedText}
 use borrow.Author.Needs.{needs}
 use Rattle.listing.proofs.list_solved.Statement.{statement}
 use Rattle.listing.proofs.list_solved.Tie as tie

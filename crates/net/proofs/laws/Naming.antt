@@ -17,7 +17,7 @@ use Rattle.circuit.specs.Circuit.{Input, Latch}
 use Rattle.circuit.specs.Limits.{base}
 use Rattle.circuit.specs.Literal.{variable}
 use Rattle.circuit.specs.Stored.{literalOf, inputsOf, latchesOf}
-use Rattle.net.specs.Made.{namesIn}
+use Rattle.net.specs.contracts.NamesIn.{namesIn}
 use Rattle.net.specs.NetOf.{Names, name, nameInputs, nameLatches}
 
 -- a number written at a variable is its name

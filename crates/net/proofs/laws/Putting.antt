@@ -12,7 +12,7 @@ use Rattle.circuit.specs.Circuit.{Latch, Gate}
 use Rattle.circuit.specs.Limits.{base}
 use Rattle.circuit.specs.Literal.{variable}
 use Rattle.circuit.specs.Stored.{literalOf, latchesOf, gatesOf}
-use Rattle.net.specs.Made.{namesIn}
+use Rattle.net.specs.contracts.NamesIn.{namesIn}
 use Rattle.net.specs.NetOf.{Names, name, netLiteral, nameGates, operandsOf}
 use Rattle.net.proofs.laws.Names.{Below, name-below, below-more}
 

@@ -8,7 +8,8 @@ use lib.Seq.{length-sets}
 use Rattle.below.proofs.laws.Table.{length-table}
 use Rattle.circuit.specs.Limits.{base}
 use Rattle.net.specs.InOrder.{variables}
-use Rattle.net.specs.Made.{namesIn, most}
+use Rattle.net.specs.Made.{most}
+use Rattle.net.specs.contracts.NamesIn.{namesIn}
 use Rattle.net.specs.NetOf.{netLiteral}
 use Rattle.net.proofs.laws.Names.{Below}
 use Rattle.net.proofs.laws.Naming.{names-none}

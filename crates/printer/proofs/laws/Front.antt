@@ -21,7 +21,9 @@ module _ (file : List ℕ) (r : FileRead) (given : ReadAs (circuitIn file) r) wh
   then : ℕ → Outcome Circuit → Outcome (List ℕ)
   then room o = o >>= λ c. printedInto c room
 
-  pub front-printed : (before after : List ℕ) (w : Written) → r .answer ≡ Taken → WrittenAs (printedInto (meant (r .circuit)) (length before)) before after w → WrittenAs (filePrinted file (length before)) before after w
+  pub front-printed :
+      (before after : List ℕ) (w : Written) → r .answer ≡ Taken → WrittenAs (printedInto (meant (r .circuit)) (length before)) before after w
+      → WrittenAs (filePrinted file (length before)) before after w
   unfolding filePrinted then
   front-printed before after w e p =
       let m : Means file r = taken-means file r given e in

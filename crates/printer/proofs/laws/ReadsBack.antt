@@ -24,7 +24,8 @@ module _ (file : List ℕ) (c : Circuit) (reads : circuitIn file ≡ taken c) (b
   unfolding filePrinted printedInto
   print-stands w e =
       fitted-is (printed c) (take n after) (length before)
-      (sym (ap (λ (o : Outcome Circuit). o >>= λ d. printedInto d (length before)) reads) ∙ counted-stands (filePrinted file (length before)) before after r n w e)
+      (sym (ap (λ (o : Outcome Circuit). o >>= λ d. printedInto d (length before)) reads)
+      ∙ counted-stands (filePrinted file (length before)) before after r n w e)
 
   pub print-reads-back : WrittenAs (filePrinted file (length before)) before after r → writtenOutcome r ≡ taken n → circuitIn (take n after) ≡ taken c
   unfolding circuitIn
@@ -51,4 +52,5 @@ count-refused-exactly file room number place =
 pub print-refused-exactly :
     (file before after : List ℕ) (r : Written) (number place : ℕ) → WrittenAs (filePrinted file (length before)) before after r
     → (writtenOutcome r ≡ refused number place) ↔ WriterRow file printed (length before) number place
-print-refused-exactly file before after r number place w = let row = count-refused-exactly file (length before) number place in (λ e. row .0 (sym (w .answer) ∙ e), λ t. w .answer ∙ row .1 t)
+print-refused-exactly file before after r number place w =
+    let row = count-refused-exactly file (length before) number place in (λ e. row .0 (sym (w .answer) ∙ e), λ t. w .answer ∙ row .1 t)

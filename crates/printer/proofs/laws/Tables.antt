@@ -32,15 +32,21 @@ symbols-text : (position : ℕ) (i : Input) → flatMap symbolLine (symbolsOf po
 unfolding symbolsOf symbolText flatMap
 symbols-text position i = by (i .controllable)
   where
-    by : (b : Bool) → flatMap symbolLine (cond b (record { letter = inputLetter; position = position; name = prefix ++ decimal position } ∷ []) []) ≡ cond b (symbolLine (record { letter = inputLetter; position = position; name = prefix ++ decimal position })) []
+    by :
+        (b : Bool)
+        → flatMap symbolLine (cond b (record { letter = inputLetter; position = position; name = prefix ++ decimal position } ∷ []) [])
+        ≡ cond b (symbolLine (record { letter = inputLetter; position = position; name = prefix ++ decimal position })) []
     by true = append-nil _
     by false = refl
 
-symbols-append : (position : ℕ) (is : List Input) (i : Input) → printedSymbols position (is ++ (i ∷ [])) ≡ printedSymbols position is ++ symbolsOf (position + length is) i
+symbols-append :
+    (position : ℕ) (is : List Input) (i : Input)
+    → printedSymbols position (is ++ (i ∷ [])) ≡ printedSymbols position is ++ symbolsOf (position + length is) i
 unfolding printedSymbols symbolsOf
 symbols-append position [] i = append-nil (symbolsOf position i) ∙ ap (λ (p : ℕ). symbolsOf p i) (omega arith)
 symbols-append position (j ∷ js) i =
-    ap (λ (l : List Symbol). symbolsOf position j ++ l) (symbols-append (suc position) js i ∙ ap (λ (p : ℕ). printedSymbols (suc position) js ++ symbolsOf p i) (omega arith))
+    ap (λ (l : List Symbol). symbolsOf position j ++ l)
+    (symbols-append (suc position) js i ∙ ap (λ (p : ℕ). printedSymbols (suc position) js ++ symbolsOf p i) (omega arith))
     ∙ sym (append-assoc (symbolsOf position j) (printedSymbols (suc position) js) (symbolsOf (position + length (j ∷ js)) i))
 
 pub symbols-table : (row : ℕ → Input) (n : ℕ) → flatMap symbolLine (printedSymbols 0 (table row n)) ≡ inTurn (λ i. symbolText i (row i)) n

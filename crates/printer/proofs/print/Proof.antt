@@ -29,7 +29,8 @@ returns-2 : tie.Need-returns-2
 returns-2 c =
     let a = c .before .before .before .before .before .before .before .before .before .args in
     let r = c .before .before .before .before .before .before .read in
-    front-printed (a .file .now) (r .result) (r .ensures) (a .out .now) _ _ (c .before .before .before .before .enum-told .given .1) (c .before .before .print-circuit .ensures)
+    front-printed (a .file .now) (r .result) (r .ensures) (a .out .now) _ _ (c .before .before .before .before .enum-told .given .1)
+    (c .before .before .print-circuit .ensures)
 
 pub print-spec : {M : Type 1} → statement M
 print-spec =

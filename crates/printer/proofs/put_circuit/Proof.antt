@@ -110,7 +110,10 @@ put-gates-requires c κs =
     omega (arith, before-gates output, counts-at output .least3 .ensures)
 
 slice-aggregate-put-names : tie.Need-slice-aggregate-put-names
-slice-aggregate-put-names c = sym (length-controllable (start-at (c .before .before .before .before .before .before .before .before .before .before .before .before .before .before .before)))
+slice-aggregate-put-names c =
+    sym
+    (length-controllable
+    (start-at (c .before .before .before .before .before .before .before .before .before .before .before .before .before .before .before)))
 
 put-names-requires : tie.Need-put-names-requires
 put-names-requires c κs =

@@ -33,9 +33,12 @@ same-length c = search needs
 
 returns : tie.Need-returns
 returns c =
-    let a = c .before .before .before .before .before .before .before .before .before .before .before .before .before .before .before .before .before .before .before .before .before .before .before .before .before .before .args in
-    let word = c .before .before .before .before .before .before .before .before .before .before .before .before .before .before .before .before .before .before .before .before .before .before .put-bytes .ensures in
-    let first = c .before .before .before .before .before .before .before .before .before .before .before .before .before .before .before .before .before .before .put-number .ensures in
+    let a = c .before .before .before .before .before .before .before .before .before .before .before .before .before .before .before .before .before
+    .before .before .before .before .before .before .before .before .before .args in
+    let word = c .before .before .before .before .before .before .before .before .before .before .before .before .before .before .before .before
+    .before .before .before .before .before .before .put-bytes .ensures in
+    let first = c .before .before .before .before .before .before .before .before .before .before .before .before .before .before .before .before
+    .before .before .put-number .ensures in
     let second = c .before .before .before .before .before .before .before .before .before .before .before .before .before .before .put-number2 .ensures in
     let third = c .before .before .before .before .before .before .before .before .before .before .put-number3 .ensures in
     let fourth = c .before .before .before .before .before .before .put-number4 .ensures in

@@ -29,7 +29,8 @@ returns-2 : tie.Need-returns-2
 returns-2 c =
     let a = c .before .before .before .before .before .before .before .before .before .args in
     let r = c .before .before .before .before .before .before .read in
-    front-certified (a .file .now) (r .result) (r .ensures) (a .out .now) _ _ (c .before .before .before .before .enum-told .given .1) (c .before .before .certify-circuit .ensures)
+    front-certified (a .file .now) (r .result) (r .ensures) (a .out .now) _ _ (c .before .before .before .before .enum-told .given .1)
+    (c .before .before .certify-circuit .ensures)
 
 pub certify-spec : {M : Type 1} → statement M
 certify-spec =

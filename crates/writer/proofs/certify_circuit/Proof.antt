@@ -33,8 +33,13 @@ certify-replies-requires c κs = let v = c .before .before .before .before .befo
     let n = c .before .before .before .before .before .before .before .before .before .counted in
     let s = c .before .before .before .before .before .before .before .before .solve in
     let m = c .before .before .before .before .before .before .numbers in
-    let r = c .before .before .before .before .numbers2 in
-    (few-numbers (n .result .latches) (m .result) (base .latches) (m .ensures) (n .ensures .1 .0), (few-numbers (n .result .uncontrollable) (r .result) (base .uncontrollable) (r .ensures) (n .ensures .1 .1), all-replies (solvable (meant v)) (s .result) (s .ensures)))
+    let r = c .before .before .before .before .numbers2 in (
+      few-numbers (n .result .latches) (m .result) (base .latches) (m .ensures) (n .ensures .1 .0),
+      (
+        few-numbers (n .result .uncontrollable) (r .result) (base .uncontrollable) (r .ensures) (n .ensures .1 .1),
+        all-replies (solvable (meant v)) (s .result) (s .ensures),
+      ),
+    )
 
 slice-aggregate-certify-attacks : tie.Need-slice-aggregate-certify-attacks
 slice-aggregate-certify-attacks c = search needs
@@ -56,7 +61,9 @@ returns c = let v = c .before .before .before .before .before .before .before .b
     let s = c .before .before .before .before .before .before .before .before .before .before .before .solve in
     let m = c .before .before .before .before .before .before .before .before .before .numbers in
     let r = c .before .before .before .before .before .before .before .numbers2 in
-    c .before .before .certify-replies .ensures (solvable (meant v)) (zero-replied (solvable (meant v)) (s .result) (s .ensures) (n .result) (n .ensures .0) (n .ensures .1 .0) (m .result) (m .ensures) (r .result) (r .ensures) (n .ensures .1 .1) (c .before .before .before .before .before .before .before .before .if1 .taken))
+    c .before .before .certify-replies .ensures (solvable (meant v))
+    (zero-replied (solvable (meant v)) (s .result) (s .ensures) (n .result) (n .ensures .0) (n .ensures .1 .0) (m .result) (m .ensures) (r .result)
+    (r .ensures) (n .ensures .1 .1) (c .before .before .before .before .before .before .before .before .if1 .taken))
 
 same-length-2 : tie.Need-same-length-2
 same-length-2 c = search needs
@@ -66,7 +73,9 @@ returns-2 c = let v = c .before .before .before .before .before .before .before 
     let n = c .before .before .before .before .before .before .before .before .before .before .before .counted in
     let s = c .before .before .before .before .before .before .before .before .before .before .solve in
     let m = c .before .before .before .before .before .before .before .before .numbers in
-    c .before .before .certify-attacks .ensures (solvable (meant v)) (ranked-attacked (solvable (meant v)) (s .result) (s .ensures) (n .result) (n .ensures .0) (n .ensures .1 .0) (m .result) (m .ensures) (c .before .before .before .before .before .before .before .if1 .left))
+    c .before .before .certify-attacks .ensures (solvable (meant v))
+    (ranked-attacked (solvable (meant v)) (s .result) (s .ensures) (n .result) (n .ensures .0) (n .ensures .1 .0) (m .result) (m .ensures)
+    (c .before .before .before .before .before .before .before .if1 .left))
 
 pub certify-circuit-spec : {M : Type 1} → statement M
 certify-circuit-spec =

@@ -2,22 +2,18 @@
 use Prim.Native.Nat.{ℕ, _+_, _*_, _^_, _≤_}
 use native.Mathlib.Nat.{mul-le-mul}
 use native.Mathlib.Omega.{arith}
-use mathlib.Core.List.{List, _++_}
+use mathlib.Core.List.{List}
 use mathlib.Core.Path.{_≡_}
-use lib.ListN.{length-append}
 use Rattle.below.specs.Table.{table}
 use Rattle.below.proofs.laws.Table.{length-table}
-use Rattle.bits.specs.Digits.{digits}
 use Rattle.bits.specs.Wrote.{Wrote}
-use Rattle.bits.proofs.laws.Digits.{length-digits}
 use Rattle.circuit.specs.Limits.{base}
 
-pub few-replies : (states readings : ℕ) → states ≤ 2 ^ base .latches → readings ≤ 2 ^ base .uncontrollable → states * readings ≤ 2 ^ base .latches * 2 ^ base .uncontrollable
+pub few-replies :
+    (states readings : ℕ) → states ≤ 2 ^ base .latches → readings ≤ 2 ^ base .uncontrollable
+    → states * readings ≤ 2 ^ base .latches * 2 ^ base .uncontrollable
 few-replies states readings h l = mul-le-mul h l
 
--- behind a head, and behind a table
-pub head-place : (n kind : ℕ) {at next : ℕ} {before after : List ℕ} → Wrote (digits 256 4 n ++ digits 256 2 kind) at before after next → next ≡ at + 6
-head-place n kind w = omega (arith, w .answer, length-append (digits 256 4 n) (digits 256 2 kind), length-digits 256 4 n, length-digits 256 2 kind)
-
+-- behind a table
 pub table-place : (f : ℕ → ℕ) (n : ℕ) {at next : ℕ} {before after : List ℕ} → Wrote (table f n) at before after next → next ≡ at + n
 table-place f n w = omega (arith, w .answer, length-table f n)

@@ -3,10 +3,9 @@
 use Prim.Native.Nat.{ℕ, _<_, _≤_}
 use native.Mathlib.Omega.{arith}
 use mathlib.Core.Bool.{true, false}
-use mathlib.Core.List.{List, _++_}
+use mathlib.Core.List.{List}
 use mathlib.Core.Path.{_≡_, ap, _∙_, subst}
 use lib.ListN.{length}
-use Rattle.bits.specs.Digits.{digits}
 use Rattle.bits.specs.Wrote.{Wrote}
 use Rattle.bits.proofs.laws.Wrote.{sets-front, wrote-both}
 use Rattle.circuit.specs.Answer.{bufferAfter, noRoom}
@@ -17,6 +16,7 @@ use Rattle.game.specs.Attack.{attack}
 use Rattle.game.specs.CircuitGame.{circuitGame, isRealizable}
 use Rattle.game.specs.Rank.{rank, inRegion}
 use Rattle.game.specs.Reply.{reply}
+use Rattle.put.specs.Head.{headOf}
 use Rattle.records.specs.AttackTable.{attackBytes}
 use Rattle.records.specs.Record.{recordOf, circuitKind, regionKind, replyKind, attackKind}
 use Rattle.records.specs.RegionBits.{regionBytes}
@@ -27,9 +27,11 @@ use Rattle.writer.specs.Answer.{Verdict, certifiedOutcome, certificateFo
 use Rattle.writer.specs.Certificate.{replyCertificate, attackCertificate, certificateOf}
 
 -- a head and the contents behind it
-pub wrote-record : (kind n : ℕ) {at mid next : ℕ} {contents before between after : List ℕ} → Wrote (digits 256 4 n ++ digits 256 2 kind) at before between mid → n ≡ length contents → Wrote contents mid between after next → Wrote (recordOf kind contents) at before after next
+pub wrote-record :
+    (kind n : ℕ) {at mid next : ℕ} {contents before between after : List ℕ} → Wrote (headOf kind n) at before between mid → n ≡ length contents
+    → Wrote contents mid between after next → Wrote (recordOf kind contents) at before after next
 unfolding recordOf
-wrote-record kind n {at} {mid} {before = before} {between} h e w = wrote-both (subst (λ (k : ℕ). Wrote (digits 256 4 k ++ digits 256 2 kind) at before between mid) e h) w
+wrote-record kind n {at} {mid} {before = before} {between} h e w = wrote-both (subst (λ (k : ℕ). Wrote (headOf kind k) at before between mid) e h) w
 
 pub replies-of : (file : List ℕ) (c : Circuit) → isRealizable c ≡ true → certificateOf file c ≡ replyCertificate file c
 unfolding certificateOf
@@ -41,11 +43,18 @@ attacks-of file c e = rw e
 
 module _ (file : List ℕ) (c : Circuit) {before after : List ℕ} where
   -- the three records, and the two
-  pub wrote-replies : {m n o : ℕ} {first second : List ℕ} → Wrote (recordOf circuitKind file) 0 before first m → Wrote (recordOf regionKind (regionBytes (inRegion (circuitGame c)) (latchCount c))) m first second n → Wrote (recordOf replyKind (replyBytes (reply (circuitGame c)) (latchCount c) (uncontrollableCount c))) n second after o → Wrote (replyCertificate file c) 0 before after o
+  pub wrote-replies :
+      {m n o : ℕ} {first second : List ℕ} → Wrote (recordOf circuitKind file) 0 before first m
+      → Wrote (recordOf regionKind (regionBytes (inRegion (circuitGame c)) (latchCount c))) m first second n
+      → Wrote (recordOf replyKind (replyBytes (reply (circuitGame c)) (latchCount c) (uncontrollableCount c))) n second after o
+      → Wrote (replyCertificate file c) 0 before after o
   unfolding replyCertificate
   wrote-replies v w x = wrote-both (wrote-both v w) x
 
-  pub wrote-attacks : {m n : ℕ} {first : List ℕ} → Wrote (recordOf circuitKind file) 0 before first m → Wrote (recordOf attackKind (attackBytes (rank (circuitGame c)) (attack (circuitGame c)) (latchCount c))) m first after n → Wrote (attackCertificate file c) 0 before after n
+  pub wrote-attacks :
+      {m n : ℕ} {first : List ℕ} → Wrote (recordOf circuitKind file) 0 before first m
+      → Wrote (recordOf attackKind (attackBytes (rank (circuitGame c)) (attack (circuitGame c)) (latchCount c))) m first after n
+      → Wrote (attackCertificate file c) 0 before after n
   unfolding attackCertificate
   wrote-attacks v w = wrote-both v w
 
@@ -56,24 +65,34 @@ module _ (file : List ℕ) (c : Circuit) {before after : List ℕ} where
   counts : (bytes : List ℕ) (n : ℕ) → Wrote bytes 0 before after n → n ≡ length bytes
   counts bytes n w = omega (arith, w .answer)
 
-  pub certified-replies : (n : ℕ) → isRealizable c ≡ true → length (replyCertificate file c) ≤ length before → Wrote (replyCertificate file c) 0 before after n → CertifiedAs file (taken c) before after (Realizable n)
+  pub certified-replies :
+      (n : ℕ) → isRealizable c ≡ true → length (replyCertificate file c) ≤ length before → Wrote (replyCertificate file c) 0 before after n
+      → CertifiedAs file (taken c) before after (Realizable n)
   unfolding certifiedOutcome certificateFor verdictFor
   certified-replies n e h w =
       record {
-        answer = rw (replies-of file c e, fitted-taken (replyCertificate file c) (length before) h, e) (ap {B = Outcome Verdict} (λ (k : ℕ). taken (record { realizable = true; count = k })) (counts (replyCertificate file c) n w));
+        answer =
+            rw (replies-of file c e, fitted-taken (replyCertificate file c) (length before) h, e)
+            (ap {B = Outcome Verdict} (λ (k : ℕ). taken (record { realizable = true; count = k })) (counts (replyCertificate file c) n w));
         bytes = rw (replies-of file c e, fitted-taken (replyCertificate file c) (length before) h) (stands (replyCertificate file c) n h w);
       }
 
-  pub certified-attacks : (n : ℕ) → isRealizable c ≡ false → length (attackCertificate file c) ≤ length before → Wrote (attackCertificate file c) 0 before after n → CertifiedAs file (taken c) before after (Unrealizable n)
+  pub certified-attacks :
+      (n : ℕ) → isRealizable c ≡ false → length (attackCertificate file c) ≤ length before → Wrote (attackCertificate file c) 0 before after n
+      → CertifiedAs file (taken c) before after (Unrealizable n)
   unfolding certifiedOutcome certificateFor verdictFor
   certified-attacks n e h w =
       record {
-        answer = rw (attacks-of file c e, fitted-taken (attackCertificate file c) (length before) h, e) (ap {B = Outcome Verdict} (λ (k : ℕ). taken (record { realizable = false; count = k })) (counts (attackCertificate file c) n w));
+        answer =
+            rw (attacks-of file c e, fitted-taken (attackCertificate file c) (length before) h, e)
+            (ap {B = Outcome Verdict} (λ (k : ℕ). taken (record { realizable = false; count = k })) (counts (attackCertificate file c) n w));
         bytes = rw (attacks-of file c e, fitted-taken (attackCertificate file c) (length before) h) (stands (attackCertificate file c) n h w);
       }
 
 -- the buffer is too short
-pub certified-refused : (file : List ℕ) (c : Circuit) (buffer : List ℕ) → length buffer < length (certificateOf file c) → CertifiedAs file (taken c) buffer buffer (Refused (record { number = noRoom; place = 0 }))
+pub certified-refused :
+    (file : List ℕ) (c : Circuit) (buffer : List ℕ) → length buffer < length (certificateOf file c)
+    → CertifiedAs file (taken c) buffer buffer (Refused (record { number = noRoom; place = 0 }))
 unfolding certifiedOutcome certificateFor verdictFor bufferAfter
 certified-refused file c buffer h =
     record {

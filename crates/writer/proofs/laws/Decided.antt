@@ -31,7 +31,9 @@ same-answer (Refused r) (Refused s) e =
     let place : r .place ≡ s .place = cc in
     λ x. Refused (record { number = number x; place = place x })
 
-pub certified-decided : (file : List ℕ) (circuit : Outcome Circuit) (before l m : List ℕ) (r s : Certified) → CertifiedAs file circuit before l r → CertifiedAs file circuit before m s → (r ≡ s) × (l ≡ m)
+pub certified-decided :
+    (file : List ℕ) (circuit : Outcome Circuit) (before l m : List ℕ) (r s : Certified) → CertifiedAs file circuit before l r
+    → CertifiedAs file circuit before m s → (r ≡ s) × (l ≡ m)
 certified-decided file circuit before l m r s v w = (same-answer r s (v .answer ∙ sym (w .answer)), v .bytes ∙ sym (w .bytes))
 
 -- for the circuit that the file itself says, these are the bytes of the definition

@@ -16,7 +16,9 @@ use Rattle.writer.specs.declared.Certified.the-variants.{Refused}
 use Rattle.writer.specs.Answer.{CertifiedAs, certifiedOutcome, certificateFor, verdictFor}
 
 module _ (file : List ℕ) (r : FileRead) (given : ReadAs (circuitIn file) r) where
-  pub front-certified : (before after : List ℕ) (k : Certified) → r .answer ≡ Taken → CertifiedAs file (taken (solvable (meant (r .circuit)))) before after k → CertifiedAs file (circuitIn file) before after k
+  pub front-certified :
+      (before after : List ℕ) (k : Certified) → r .answer ≡ Taken → CertifiedAs file (taken (solvable (meant (r .circuit)))) before after k
+      → CertifiedAs file (circuitIn file) before after k
   front-certified before after k e p =
       let m : Means file r = taken-means file r given e in
       subst (λ (o : Outcome Circuit). CertifiedAs file o before after k) (ap {B = Outcome Circuit} taken (m .solvable-is) ∙ sym (m .read)) p
@@ -24,4 +26,5 @@ module _ (file : List ℕ) (r : FileRead) (given : ReadAs (circuitIn file) r) wh
   pub front-refused : (buffer : List ℕ) (x : Refusal) → r .answer ≡ ReadRefused x → CertifiedAs file (circuitIn file) buffer buffer (Refused x)
   unfolding certifiedOutcome certificateFor verdictFor bufferAfter
   front-refused buffer x e =
-      subst (λ (o : Outcome Circuit). CertifiedAs file o buffer buffer (Refused x)) (sym (refused-means file r given x e)) (record { answer = refl; bytes = refl })
+      subst (λ (o : Outcome Circuit). CertifiedAs file o buffer buffer (Refused x)) (sym (refused-means file r given x e))
+      (record { answer = refl; bytes = refl })

@@ -13,7 +13,9 @@ use Rattle.records.specs.ReplyBytes.{replyLength}
 use Rattle.records.proofs.laws.Lengths.{length-record, length-region, length-replies, length-attacks}
 use Rattle.writer.specs.Certificate.{replyCertificate, attackCertificate, certificateOf}
 
-pub reply-length : (file : List ℕ) (c : Circuit) → length (replyCertificate file c) ≡ 18 + length file + (2 ^ latchCount c + 7) / 8 + 2 ^ (latchCount c + uncontrollableCount c)
+pub reply-length :
+    (file : List ℕ) (c : Circuit)
+    → length (replyCertificate file c) ≡ 18 + length file + (2 ^ latchCount c + 7) / 8 + 2 ^ (latchCount c + uncontrollableCount c)
 unfolding replyCertificate regionLength replyLength
 reply-length file c = simp (length-append, length-record, length-region, length-replies) (omega arith)
 
@@ -22,10 +24,17 @@ unfolding attackCertificate attackLength
 attack-length file c = simp (length-append, length-record, length-attacks) (omega arith)
 
 -- how long the certificate of a circuit is
-pub certificate-length : (file : List ℕ) (c : Circuit) → length (certificateOf file c) ≡ cond (isRealizable c) (18 + length file + (2 ^ latchCount c + 7) / 8 + 2 ^ (latchCount c + uncontrollableCount c)) (12 + length file + 3 * 2 ^ latchCount c)
+pub certificate-length :
+    (file : List ℕ) (c : Circuit)
+    → length (certificateOf file c)
+    ≡ cond (isRealizable c) (18 + length file + (2 ^ latchCount c + 7) / 8 + 2 ^ (latchCount c + uncontrollableCount c))
+    (12 + length file + 3 * 2 ^ latchCount c)
 unfolding certificateOf
 certificate-length file c = by (isRealizable c)
   where
-    by : (b : Bool) → length (cond b (replyCertificate file c) (attackCertificate file c)) ≡ cond b (18 + length file + (2 ^ latchCount c + 7) / 8 + 2 ^ (latchCount c + uncontrollableCount c)) (12 + length file + 3 * 2 ^ latchCount c)
+    by :
+        (b : Bool)
+        → length (cond b (replyCertificate file c) (attackCertificate file c))
+        ≡ cond b (18 + length file + (2 ^ latchCount c + 7) / 8 + 2 ^ (latchCount c + uncontrollableCount c)) (12 + length file + 3 * 2 ^ latchCount c)
     by true = reply-length file c
     by false = attack-length file c

@@ -25,8 +25,13 @@ longest-certificate file c e = subst (λ (n : ℕ). n ≤ 49298) (sym (certifica
     latches = pow-mono (within .fewLatches)
 
     cells : 2 ^ (latchCount c + uncontrollableCount c) ≤ 2 ^ (base .latches + base .uncontrollable)
-    cells = pow-mono {i = latchCount c + uncontrollableCount c} {j = base .latches + base .uncontrollable} (omega (arith, within .fewLatches, within .fewReadings))
+    cells =
+        pow-mono {i = latchCount c + uncontrollableCount c} {j = base .latches + base .uncontrollable}
+        (omega (arith, within .fewLatches, within .fewReadings))
 
-    by : (b : Bool) → cond b (18 + length file + (2 ^ latchCount c + 7) / 8 + 2 ^ (latchCount c + uncontrollableCount c)) (12 + length file + 3 * 2 ^ latchCount c) ≤ 49298
+    by :
+        (b : Bool)
+        → cond b (18 + length file + (2 ^ latchCount c + 7) / 8 + 2 ^ (latchCount c + uncontrollableCount c)) (12 + length file + 3 * 2 ^ latchCount c)
+        ≤ 49298
     by true = omega (arith, within .short, latches, cells)
     by false = omega (arith, within .short, latches)

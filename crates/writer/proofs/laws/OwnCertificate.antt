@@ -48,7 +48,9 @@ abbrev told : Circuit → Outcome (List ℕ) → Outcome Verdict
 told c o = o >>= λ bytes. taken (record { realizable = isRealizable c; count = length bytes })
 
 -- a refusal writes nothing
-pub refused-certifies-nothing : (file : List ℕ) (circuit : Outcome Circuit) (before after : List ℕ) (r : Certified) (number place : ℕ) → CertifiedAs file circuit before after r → certifiedOutcome r ≡ refused number place → after ≡ before
+pub refused-certifies-nothing :
+    (file : List ℕ) (circuit : Outcome Circuit) (before after : List ℕ) (r : Certified) (number place : ℕ) → CertifiedAs file circuit before after r
+    → certifiedOutcome r ≡ refused number place → after ≡ before
 unfolding certificateFor verdictFor bufferAfter
 refused-certifies-nothing file (refused n p) before after r number place w e = w .bytes
 refused-certifies-nothing file (taken c) before after r number place w e = by (fitted (certificateOf file c) (length before)) (sym e ∙ w .answer) (w .bytes)
@@ -62,7 +64,9 @@ pub verdict-refused-exactly :
     (file : List ℕ) (room number place : ℕ)
     → (verdictFor file (circuitIn file) room ≡ refused number place) ↔ WriterRow file (certificateOf file) room number place
 unfolding verdictFor
-verdict-refused-exactly file room number place = let row = no-room-exactly file (certificateOf file) room number place in (λ e. row .0 (by (circuitIn file) .0 e), λ t. by (circuitIn file) .1 (row .1 t))
+verdict-refused-exactly file room number place =
+    let row = no-room-exactly file (certificateOf file) room number place in
+    (λ e. row .0 (by (circuitIn file) .0 e), λ t. by (circuitIn file) .1 (row .1 t))
   where
     by : (o : Outcome Circuit) → (verdictFor file o room ≡ refused number place) ↔ ((o >>= λ c. fitted (certificateOf file c) room) ≡ refused number place)
     by (taken c) = told-refused (fitted (certificateOf file c) room) (λ bytes. record { realizable = isRealizable c; count = length bytes }) number place
@@ -71,7 +75,8 @@ verdict-refused-exactly file room number place = let row = no-room-exactly file 
 pub certify-refused-exactly :
     (file before after : List ℕ) (r : Certified) (number place : ℕ) → CertifiedAs file (circuitIn file) before after r
     → (certifiedOutcome r ≡ refused number place) ↔ WriterRow file (certificateOf file) (length before) number place
-certify-refused-exactly file before after r number place w = let row = verdict-refused-exactly file (length before) number place in (λ e. row .0 (sym (w .answer) ∙ e), λ t. w .answer ∙ row .1 t)
+certify-refused-exactly file before after r number place w =
+    let row = verdict-refused-exactly file (length before) number place in (λ e. row .0 (sym (w .answer) ∙ e), λ t. w .answer ∙ row .1 t)
 
 -- a certificate that was written, as it is told: its bytes stand at the front of the buffer, and it passes
 pub record Passing (file : List ℕ) (c : Circuit) (after : List ℕ) (v : Verdict) : Type 0 where
@@ -88,7 +93,9 @@ pub told-passes :
     → Passing file c after v
 told-passes file c before after v reads told written =
     let says : verdictFor file (taken c) (length before) ≡ taken v = subst (λ (o : Outcome Circuit). verdictFor file o (length before) ≡ taken v) reads told in
-    let leaves : after ≡ bufferAfter (certificateFor file (taken c) (length before)) before = subst (λ (o : Outcome Circuit). after ≡ bufferAfter (certificateFor file o (length before)) before) reads written in
+    let leaves : after
+    ≡ bufferAfter (certificateFor file (taken c) (length before)) before = subst
+    (λ (o : Outcome Circuit). after ≡ bufferAfter (certificateFor file o (length before)) before) reads written in
     let (verdict, counted, stands) = buffer-holds file c before after v says leaves in
     record {
       starts = startsOf c (ownTables file c);
@@ -106,13 +113,18 @@ pub room-certifies :
 unfolding verdictFor
 room-certifies file c before after r reads w room =
     let v : Verdict = record { realizable = isRealizable c; count = length (certificateOf file c) } in
-    let says : verdictFor file (circuitIn file) (length before) ≡ taken v = ap (λ (o : Outcome Circuit). verdictFor file o (length before)) reads ∙ ap (told c) (fitted-taken (certificateOf file c) (length before) room) in
+    let says : verdictFor file (circuitIn file) (length before) ≡ taken v = ap (λ (o : Outcome Circuit). verdictFor file o (length before)) reads
+    ∙ ap (told c) (fitted-taken (certificateOf file c) (length before) room) in
     (v, w .answer ∙ says, told-passes file c before after v reads says (w .bytes))
 
 -- a verdict is told of a file that is read only
 pub told-reads : (file : List ℕ) (room : ℕ) (v : Verdict) → verdictFor file (circuitIn file) room ≡ taken v → (c : Circuit) × (circuitIn file ≡ taken c)
 unfolding verdictFor
-told-reads file room v told = let (c, reads, rest) = bind-taken (circuitIn file) (λ c. fitted (certificateOf file c) room >>= λ bytes. taken (record { realizable = isRealizable c; count = length bytes })) v told in (c, reads)
+told-reads file room v told =
+    let (c, reads, rest) =
+    bind-taken (circuitIn file)
+    (λ c. fitted (certificateOf file c) room >>= λ bytes. taken (record { realizable = isRealizable c; count = length bytes })) v told in
+    (c, reads)
 
 module _ (file : List ℕ) (c : Circuit) (reads : circuitIn file ≡ taken c) where
   abbrev own : List ℕ
@@ -122,7 +134,9 @@ module _ (file : List ℕ) (c : Circuit) (reads : circuitIn file ≡ taken c) wh
   own-taken : (t : Tables) → checkOf file own ≡ taken t → ownTables file c ≡ t
   own-taken t e = let same : taken (ownTables file c) ≡ taken t = sym (written-passes file c reads) ∙ e in cc
 
-  replies-own : (circuit states : List ℕ) (kind : ℕ) (bytes : List ℕ) → checkOf file own ≡ taken (replies circuit states kind bytes) → (states ≡ ownRegion c) × (bytes ≡ ownReplies c)
+  replies-own :
+      (circuit states : List ℕ) (kind : ℕ) (bytes : List ℕ) → checkOf file own ≡ taken (replies circuit states kind bytes)
+      → (states ≡ ownRegion c) × (bytes ≡ ownReplies c)
   unfolding ownTables
   replies-own circuit states kind bytes e = by (isRealizable c) refl (own-taken (replies circuit states kind bytes) e)
     where
@@ -195,8 +209,14 @@ module _ (file : List ℕ) (c : Circuit) (reads : circuitIn file ≡ taken c) wh
 
     pub own-rank : storedRank (drop table own) L s ≡ rank (circuitGame c) s
     unfolding circuitGame
-    own-rank = sym (ranks-are file own c reads table L U pass s) ∙ ap (λ (l : List ℕ). storedRank l (latchCount c) s) is ∙ rank-is c (read-within file c reads .fewLatches) s lower
+    own-rank =
+        sym (ranks-are file own c reads table L U pass s)
+        ∙ ap (λ (l : List ℕ). storedRank l (latchCount c) s) is
+        ∙ rank-is c (read-within file c reads .fewLatches) s lower
 
     pub own-attack : storedAttack (drop table own) L s ≡ attack (circuitGame c) s
     unfolding circuitGame
-    own-attack = sym (attacks-are file own c reads table L U pass s) ∙ ap (λ (l : List ℕ). storedAttack l (latchCount c) s) is ∙ attack-is c (read-within file c reads .fewLatches) s lower
+    own-attack =
+        sym (attacks-are file own c reads table L U pass s)
+        ∙ ap (λ (l : List ℕ). storedAttack l (latchCount c) s) is
+        ∙ attack-is c (read-within file c reads .fewLatches) s lower

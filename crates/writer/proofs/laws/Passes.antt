@@ -58,7 +58,9 @@ checked-taken c (attacks circuit table) p =
     ∙ test-passes (ltb (brokenAttack c table) (circuitGame c .states)) brokenStep (brokenAttack c table) _ (p .rule)
 
 -- a certificate whose tables pass, of this circuit file, passes
-pub passes-of : (file certificate : List ℕ) (c : Circuit) (t : Tables) → circuitIn file ≡ taken c → tablesOf acceptedKinds certificate ≡ some t → circuitPart t ≡ file → TablesPass c t → checkOf file certificate ≡ taken t
+pub passes-of :
+    (file certificate : List ℕ) (c : Circuit) (t : Tables) → circuitIn file ≡ taken c → tablesOf acceptedKinds certificate ≡ some t
+    → circuitPart t ≡ file → TablesPass c t → checkOf file certificate ≡ taken t
 unfolding checkOf orBadShape
 passes-of file certificate c t reads shape same fine =
     rw (reads, shape)
@@ -74,11 +76,18 @@ module _ (file : List ℕ) (c : Circuit) (within : Within file c) where
   reply-tables =
       replies-shape file (omega (arith, within .short)) (ownRegion c) (ownReplies c)
       (omega (arith, length-region (inRegion (circuitGame c)) (latchCount c), few))
-      (omega (arith, length-replies (reply (circuitGame c)) (latchCount c) (uncontrollableCount c), pow-mono {i = latchCount c + uncontrollableCount c} {j = base .latches + base .uncontrollable} (omega (arith, within .fewLatches, within .fewReadings))))
+      (omega (
+        arith,
+        length-replies (reply (circuitGame c)) (latchCount c) (uncontrollableCount c),
+        pow-mono {i = latchCount c + uncontrollableCount c} {j = base .latches + base .uncontrollable}
+            (omega (arith, within .fewLatches, within .fewReadings)),
+      ))
 
   pub attack-tables : tablesOf acceptedKinds (attackCertificate file c) ≡ some (attacks file (ownAttacks c))
   unfolding attackCertificate ownAttacks attackLength
-  attack-tables = attacks-shape file (omega (arith, within .short)) (ownAttacks c) (omega (arith, length-attacks (rank (circuitGame c)) (attack (circuitGame c)) (latchCount c), few))
+  attack-tables =
+      attacks-shape file (omega (arith, within .short)) (ownAttacks c)
+      (omega (arith, length-attacks (rank (circuitGame c)) (attack (circuitGame c)) (latchCount c), few))
 
 -- what is written passes
 pub written-passes : (file : List ℕ) (c : Circuit) → circuitIn file ≡ taken c → checkOf file (certificateOf file c) ≡ taken (ownTables file c)
@@ -88,9 +97,18 @@ written-passes file c reads = by (isRealizable c) refl
     within : Within file c
     within = read-within file c reads
 
-    by : (b : Bool) → isRealizable c ≡ b → checkOf file (certificateOf file c) ≡ taken (cond (isRealizable c) (replies file (ownRegion c) replyKind (ownReplies c)) (attacks file (ownAttacks c)))
-    by true e = rw (replies-of file c e, e) (passes-of file (replyCertificate file c) c (replies file (ownRegion c) replyKind (ownReplies c)) reads (reply-tables file c within) refl (replies-pass c e))
-    by false e = rw (attacks-of file c e, e) (passes-of file (attackCertificate file c) c (attacks file (ownAttacks c)) reads (attack-tables file c within) refl (attacks-pass c (within .fewLatches) e))
+    by :
+        (b : Bool) → isRealizable c ≡ b
+        → checkOf file (certificateOf file c)
+        ≡ taken (cond (isRealizable c) (replies file (ownRegion c) replyKind (ownReplies c)) (attacks file (ownAttacks c)))
+    by true e =
+        rw (replies-of file c e, e)
+        (passes-of file (replyCertificate file c) c (replies file (ownRegion c) replyKind (ownReplies c)) reads (reply-tables file c within) refl
+        (replies-pass c e))
+    by false e =
+        rw (attacks-of file c e, e)
+        (passes-of file (attackCertificate file c) c (attacks file (ownAttacks c)) reads (attack-tables file c within) refl
+        (attacks-pass c (within .fewLatches) e))
 
 -- where a verdict is told, the certificate stands at the front of the buffer: the verdict is the circuit's, the count is the certificate's
 -- length, and so many bytes of the buffer are the certificate
@@ -99,7 +117,11 @@ pub buffer-holds :
     → after ≡ bufferAfter (certificateFor file (taken c) (length before)) before
     → (v .realizable ≡ isRealizable c) × (v .count ≡ length (certificateOf file c)) × (take (v .count) after ≡ certificateOf file c)
 unfolding certificateFor verdictFor bufferAfter
-buffer-holds file c before after v told written = elim (decLe (length certificate) (length before)) [ yes h ↦ fits h | no h ↦ absurd (refused-is-not-taken noRoom 0 v (sym (ap verdict (fitted-refused certificate (length before) (omega arith))) ∙ told)) ]
+buffer-holds file c before after v told written =
+    elim (decLe (length certificate) (length before)) [
+      | yes h ↦ fits h
+      | no h ↦ absurd (refused-is-not-taken noRoom 0 v (sym (ap verdict (fitted-refused certificate (length before) (omega arith))) ∙ told))
+    ]
   where
     certificate : List ℕ
     certificate = certificateOf file c
@@ -111,7 +133,8 @@ buffer-holds file c before after v told written = elim (decLe (length certificat
     fits h =
         let says : taken v ≡ verdict (taken certificate) = sym told ∙ ap verdict (fitted-taken certificate (length before) h) in
         let is : v ≡ record { realizable = isRealizable c; count = length certificate } = cc in
-        let stands : after ≡ certificate ++ drop (length certificate) before = written ∙ ap (λ (o : Outcome (List ℕ)). bufferAfter o before) (fitted-taken certificate (length before) h) in (
+        let stands : after ≡ certificate ++ drop (length certificate) before = written ∙ ap (λ (o : Outcome (List ℕ)). bufferAfter o before)
+        (fitted-taken certificate (length before) h) in (
           (λ x. is x .realizable),
           (λ x. is x .count),
           (λ x. take (is x .count) (stands x)) ∙ take-at certificate (drop (length certificate) before) (length certificate) refl,

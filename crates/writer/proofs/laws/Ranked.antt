@@ -18,7 +18,7 @@ use Rattle.solver.specs.Solution.{replyTable, attackTable, solutionOf}
 use Rattle.solver.specs.declared.Solution.{Solution}
 use Rattle.solver.specs.declared.counts.Counts.{Counts}
 use Rattle.solver.proofs.laws.Solution.{replies-long}
-use Rattle.writer.specs.Solved.{Solved, Replied, Attacked}
+use Rattle.writer.specs.contracts.Solved.{Solved, Replied, Attacked}
 use Rattle.region.proofs.laws.Verdict.{realizable-at-zero}
 
 -- as many numbers as n bits make are few
@@ -41,7 +41,9 @@ module _ (c : Circuit) (s : Solution) (is : s ≡ solutionOf (circuitGame c)) wh
   pub all-replies : length (s .replies) ≡ 2 ^ base .latches * 2 ^ base .uncontrollable
   all-replies = ap length replies-are ∙ replies-long (circuitGame c)
 
-  module _ (n : Counts) (counts : n ≡ countsOf c) (few : n .latches ≤ base .latches) (states : ℕ) (states-are : states ≡ 2 ^ min (n .latches) (base .latches)) where
+  module _
+      (n : Counts) (counts : n ≡ countsOf c) (few : n .latches ≤ base .latches) (states : ℕ)
+      (states-are : states ≡ 2 ^ min (n .latches) (base .latches)) where
     latches-are : states ≡ 2 ^ latchCount c
     unfolding countsOf
     latches-are = states-are ∙ numbers-whole (n .latches) few ∙ ap (λ (m : Counts). 2 ^ m .latches) counts
@@ -53,7 +55,9 @@ module _ (c : Circuit) (s : Solution) (is : s ≡ solutionOf (circuitGame c)) wh
     unfolding circuitGame
     at-zero = ap (λ (l : List ℕ). eqb (getD l 0 0) 0) ranks-are ∙ realizable-at-zero c (omega (arith, is-solved .few, latches-are))
 
-    pub zero-replied : (readings : ℕ) → readings ≡ 2 ^ min (n .uncontrollable) (base .latches) → n .uncontrollable ≤ base .uncontrollable → getD (s .ranks) 0 0 ≡ 0 → Replied c states readings (s .ranks) (s .replies)
+    pub zero-replied :
+        (readings : ℕ) → readings ≡ 2 ^ min (n .uncontrollable) (base .latches) → n .uncontrollable ≤ base .uncontrollable → getD (s .ranks) 0 0 ≡ 0
+        → Replied c states readings (s .ranks) (s .replies)
     unfolding countsOf
     zero-replied readings r narrow e =
         record {

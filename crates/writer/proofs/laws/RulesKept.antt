@@ -46,7 +46,11 @@ unfoldable pub ownAttacks : Circuit → List ℕ
 ownAttacks c = attackBytes (rank (circuitGame c)) (attack (circuitGame c)) (latchCount c)
 
 zero-or-not : (n : ℕ) → eqb n 0 ≡ not (ltb 0 n)
-zero-or-not n = elim (decLt 0 n) [ yes h ↦ ne-eqb n 0 (λ e. omega arith) ∙ sym (ap not (lt-ltb 0 n h)) | no h ↦ eq-eqb n 0 (omega arith) ∙ sym (ap not (le-ltb 0 n (omega arith))) ]
+zero-or-not n =
+    elim (decLt 0 n) [
+      | yes h ↦ ne-eqb n 0 (λ e. omega arith) ∙ sym (ap not (lt-ltb 0 n h))
+      | no h ↦ eq-eqb n 0 (omega arith) ∙ sym (ap not (le-ltb 0 n (omega arith)))
+    ]
 
 both-not : (a b : Bool) → (a ≡ true → b ≡ true) → (a && not b) ≡ false
 both-not true b h = ap not (h refl)
@@ -57,29 +61,49 @@ module _ (c : Circuit) where
   unfolding ownRegion circuitGame
   holds-is s h = region-holds (inRegion (circuitGame c)) (latchCount c) s h
 
-  pub stored-is : (s r : ℕ) → s < circuitGame c .states → r < circuitGame c .readings → storedReply (ownReplies c) (latchCount c) (uncontrollableCount c) s r ≡ reply (circuitGame c) s r
+  pub stored-is :
+      (s r : ℕ) → s < circuitGame c .states → r < circuitGame c .readings
+      → storedReply (ownReplies c) (latchCount c) (uncontrollableCount c) s r ≡ reply (circuitGame c) s r
   unfolding ownReplies circuitGame
   stored-is s r h l = reply-back (reply (circuitGame c)) (latchCount c) (uncontrollableCount c) s r h l
 
   replies-sized : badReplyTables c (ownRegion c) (ownReplies c) ≡ false
   unfolding badReplyTables ownRegion ownReplies
-  replies-sized = rw (eq-eqb _ _ (length-region (inRegion (circuitGame c)) (latchCount c)), eq-eqb _ _ (length-replies (reply (circuitGame c)) (latchCount c) (uncontrollableCount c)), region-unused (inRegion (circuitGame c)) (latchCount c))
+  replies-sized =
+      rw (
+        eq-eqb _ _ (length-region (inRegion (circuitGame c)) (latchCount c)),
+        eq-eqb _ _ (length-replies (reply (circuitGame c)) (latchCount c) (uncontrollableCount c)),
+        region-unused (inRegion (circuitGame c)) (latchCount c),
+      )
 
   replies-reset : isRealizable c ≡ true → resetOutside c (ownRegion c) ≡ false
   unfolding resetOutside isRealizable
-  replies-reset e = none-any (λ s. isReset c s && not (holdsState (ownRegion c) (latchCount c) s)) (circuitGame c .states) (λ s h. both-not (isReset c s) (holdsState (ownRegion c) (latchCount c) s) (λ r. holds-is s h ∙ reset-in-region (circuitGame c) (isReset c) e s h r))
+  replies-reset e =
+      none-any (λ s. isReset c s && not (holdsState (ownRegion c) (latchCount c) s)) (circuitGame c .states)
+      (λ s h.
+      both-not (isReset c s) (holdsState (ownRegion c) (latchCount c) s) (λ r. holds-is s h ∙ reset-in-region (circuitGame c) (isReset c) e s h r))
 
-  unbroken : (s r : ℕ) → s < circuitGame c .states → r < circuitGame c .readings → replyBroken (circuitGame c) (holdsState (ownRegion c) (latchCount c)) (storedReply (ownReplies c) (latchCount c) (uncontrollableCount c)) s r ≡ false
+  unbroken :
+      (s r : ℕ) → s < circuitGame c .states → r < circuitGame c .readings
+      → replyBroken (circuitGame c) (holdsState (ownRegion c) (latchCount c)) (storedReply (ownReplies c) (latchCount c) (uncontrollableCount c)) s r
+      ≡ false
   unfolding Keeps
-  unbroken s r h l = reply-unbroken g (holdsState (ownRegion c) (latchCount c)) (storedReply (ownReplies c) (latchCount c) (uncontrollableCount c)) s r (λ e. fine (sym (holds-is s h) ∙ e))
+  unbroken s r h l =
+      reply-unbroken g (holdsState (ownRegion c) (latchCount c)) (storedReply (ownReplies c) (latchCount c) (uncontrollableCount c)) s r
+      (λ e. fine (sym (holds-is s h) ∙ e))
     where
       g : Game
       g = circuitGame c
 
-      fine : inRegion (circuitGame c) s ≡ true → (storedReply (ownReplies c) (latchCount c) (uncontrollableCount c) s r < circuitGame c .controls) × Keeps (circuitGame c) (λ t. holdsState (ownRegion c) (latchCount c) t ≡ true) s r (storedReply (ownReplies c) (latchCount c) (uncontrollableCount c) s r)
+      fine :
+          inRegion (circuitGame c) s ≡ true
+          → (storedReply (ownReplies c) (latchCount c) (uncontrollableCount c) s r < circuitGame c .controls)
+          × Keeps (circuitGame c) (λ t. holdsState (ownRegion c) (latchCount c) t ≡ true) s r
+          (storedReply (ownReplies c) (latchCount c) (uncontrollableCount c) s r)
       fine inside =
           let (quiet, next) = reply-keeps (circuitGame c) (circuit-proper c) s r h l inside in
-          subst (λ (k : ℕ). (k < circuitGame c .controls) × Keeps (circuitGame c) (λ t. holdsState (ownRegion c) (latchCount c) t ≡ true) s r k) (sym (stored-is s r h l))
+          subst (λ (k : ℕ). (k < circuitGame c .controls) × Keeps (circuitGame c) (λ t. holdsState (ownRegion c) (latchCount c) t ≡ true) s r k)
+          (sym (stored-is s r h l))
           (reply-is-control (circuitGame c) (circuit-proper c) s r h l inside, (quiet, holds-is _ (circuit-proper c .leads s r _) ∙ next))
 
   some-reading : 0 < circuitGame c .readings
@@ -88,10 +112,21 @@ module _ (c : Circuit) where
 
   replies-rule : ltb (brokenReply c (ownRegion c) (ownReplies c)) (circuitGame c .states * circuitGame c .readings) ≡ false
   unfolding brokenReply
-  replies-rule = le-ltb (brokenReply c (ownRegion c) (ownReplies c)) (circuitGame c .states * circuitGame c .readings) (omega (arith, least-none broken (circuitGame c .states * circuitGame c .readings) (λ i h. unbroken (i / circuitGame c .readings) (i % circuitGame c .readings) (div-lt-iff-lt-mul {k = circuitGame c .readings} {x = i} {y = circuitGame c .states} some-reading .1 h) (mod-lt i {m = circuitGame c .readings} some-reading))))
+  replies-rule =
+      le-ltb (brokenReply c (ownRegion c) (ownReplies c)) (circuitGame c .states * circuitGame c .readings)
+      (omega (
+        arith,
+        least-none broken (circuitGame c .states * circuitGame c .readings)
+            (λ i h.
+            unbroken (i / circuitGame c .readings) (i % circuitGame c .readings)
+            (div-lt-iff-lt-mul {k = circuitGame c .readings} {x = i} {y = circuitGame c .states} some-reading .1 h)
+            (mod-lt i {m = circuitGame c .readings} some-reading)),
+      ))
     where
       broken : ℕ → Bool
-      broken i = replyBroken (circuitGame c) (holdsState (ownRegion c) (latchCount c)) (storedReply (ownReplies c) (latchCount c) (uncontrollableCount c)) (i / circuitGame c .readings) (i % circuitGame c .readings)
+      broken i =
+          replyBroken (circuitGame c) (holdsState (ownRegion c) (latchCount c)) (storedReply (ownReplies c) (latchCount c) (uncontrollableCount c))
+          (i / circuitGame c .readings) (i % circuitGame c .readings)
 
   pub replies-pass : isRealizable c ≡ true → RepliesPass c (ownRegion c) (ownReplies c)
   replies-pass e = record { sized = replies-sized; reset = replies-reset e; rule = replies-rule }
@@ -115,17 +150,35 @@ module _ (c : Circuit) (few : latchCount c ≤ base .latches) where
 
   attacks-reset : isRealizable c ≡ false → resetUnranked c (ownAttacks c) ≡ false
   unfolding resetUnranked isRealizable realizable inRegion
-  attacks-reset e = every-same (λ s. not (isReset c s) || eqb (storedRank (ownAttacks c) (latchCount c) s) 0) (λ s. not (isReset c s) || inRegion (circuitGame c) s) (circuitGame c .states) (λ s h. ap (λ (b : Bool). not (isReset c s) || b) (ap (λ (n : ℕ). eqb n 0) (rank-is s h) ∙ zero-or-not (rank (circuitGame c) s))) ∙ e
+  attacks-reset e =
+      every-same (λ s. not (isReset c s) || eqb (storedRank (ownAttacks c) (latchCount c) s) 0) (λ s. not (isReset c s) || inRegion (circuitGame c) s)
+      (circuitGame c .states)
+      (λ s h. ap (λ (b : Bool). not (isReset c s) || b) (ap (λ (n : ℕ). eqb n 0) (rank-is s h) ∙ zero-or-not (rank (circuitGame c) s)))
+      ∙ e
 
-  same-broken : (s : ℕ) → s < circuitGame c .states → attackBroken (circuitGame c) (storedRank (ownAttacks c) (latchCount c)) (storedAttack (ownAttacks c) (latchCount c)) s ≡ attackBroken (circuitGame c) (rank (circuitGame c)) (attack (circuitGame c)) s
+  same-broken :
+      (s : ℕ) → s < circuitGame c .states
+      → attackBroken (circuitGame c) (storedRank (ownAttacks c) (latchCount c)) (storedAttack (ownAttacks c) (latchCount c)) s
+      ≡ attackBroken (circuitGame c) (rank (circuitGame c)) (attack (circuitGame c)) s
   unfolding attackBroken
   same-broken s h =
-      ap₂ (λ (n a : ℕ). ltb 0 n && not (ltb a (circuitGame c .readings) && defeats (circuitGame c) (storedRank (ownAttacks c) (latchCount c)) (n - 1) s a)) (rank-is s h) (attack-is s h)
-      ∙ ap (λ (b : Bool). ltb 0 (rank (circuitGame c) s) && not (ltb (attack (circuitGame c) s) (circuitGame c .readings) && b)) (defeats-same (circuitGame c) (circuit-proper c) (storedRank (ownAttacks c) (latchCount c)) (rank (circuitGame c)) (rank (circuitGame c) s - 1) s (attack (circuitGame c) s) (λ t l. ranked-same (storedRank (ownAttacks c) (latchCount c)) (rank (circuitGame c)) (rank (circuitGame c) s - 1) t (rank-is t l)))
+      ap₂
+      (λ (n a : ℕ). ltb 0 n && not (ltb a (circuitGame c .readings) && defeats (circuitGame c) (storedRank (ownAttacks c) (latchCount c)) (n - 1) s a))
+      (rank-is s h) (attack-is s h)
+      ∙ ap (λ (b : Bool). ltb 0 (rank (circuitGame c) s) && not (ltb (attack (circuitGame c) s) (circuitGame c .readings) && b))
+      (defeats-same (circuitGame c) (circuit-proper c) (storedRank (ownAttacks c) (latchCount c)) (rank (circuitGame c)) (rank (circuitGame c) s - 1)
+      s (attack (circuitGame c) s)
+      (λ t l. ranked-same (storedRank (ownAttacks c) (latchCount c)) (rank (circuitGame c)) (rank (circuitGame c) s - 1) t (rank-is t l)))
 
   attacks-rule : ltb (brokenAttack c (ownAttacks c)) (circuitGame c .states) ≡ false
   unfolding brokenAttack
-  attacks-rule = le-ltb (brokenAttack c (ownAttacks c)) (circuitGame c .states) (omega (arith, least-none (attackBroken (circuitGame c) (storedRank (ownAttacks c) (latchCount c)) (storedAttack (ownAttacks c) (latchCount c))) (circuitGame c .states) (λ s h. same-broken s h ∙ attacks-unbroken (circuitGame c) (circuit-proper c) s h)))
+  attacks-rule =
+      le-ltb (brokenAttack c (ownAttacks c)) (circuitGame c .states)
+      (omega (
+        arith,
+        least-none (attackBroken (circuitGame c) (storedRank (ownAttacks c) (latchCount c)) (storedAttack (ownAttacks c) (latchCount c)))
+            (circuitGame c .states) (λ s h. same-broken s h ∙ attacks-unbroken (circuitGame c) (circuit-proper c) s h),
+      ))
 
   pub attacks-pass : isRealizable c ≡ false → AttacksPass c (ownAttacks c)
   attacks-pass e = record { sized = attacks-sized; reset = attacks-reset e; rule = attacks-rule }

@@ -33,8 +33,8 @@ use Rattle.solver.proofs.laws.RankTable.{rank-in-table}
 use Rattle.solver.proofs.laws.Solution.{replies-front, attack-in-table}
 use Rattle.bits.specs.BitBytes.{bitBytes}
 use Rattle.bits.proofs.laws.BitBytes.{bit-bytes-same}
-use Rattle.writer.specs.Rows.{attackRow}
-use Rattle.writer.specs.Solved.{Solved, Replied, Attacked}
+use Rattle.writer.specs.contracts.Rows.{attackRow}
+use Rattle.writer.specs.contracts.Solved.{Solved, Replied, Attacked}
 
 module _ (c : Circuit) (states : ℕ) (ranks : List ℕ) (solved : Solved c states ranks) where
   few : circuitGame c .states ≤ 2 ^ base .latches
@@ -53,19 +53,29 @@ module _ (c : Circuit) (states : ℕ) (ranks : List ℕ) (solved : Solved c stat
   unfolding regionBytes
   region-written = bit-bytes-same (rankZero ranks) (inRegion (circuitGame c)) states zero-is ∙ ap (bitBytes (inRegion (circuitGame c))) (solved .statesAre)
 
-pub replies-written : (c : Circuit) (states readings : ℕ) (ranks replies : List ℕ) → Replied c states readings ranks replies → take (states * readings) replies ≡ replyBytes (reply (circuitGame c)) (latchCount c) (uncontrollableCount c)
+pub replies-written :
+    (c : Circuit) (states readings : ℕ) (ranks replies : List ℕ) → Replied c states readings ranks replies
+    → take (states * readings) replies ≡ replyBytes (reply (circuitGame c)) (latchCount c) (uncontrollableCount c)
 unfolding replyBytes replyLength circuitGame
 replies-written c states readings ranks replies replied =
     (λ x. take (replied .solved .statesAre x * replied .readingsAre x) (replied .repliesAre x))
-    ∙ replies-front (circuitGame c) (mul-le-mul {n₂ = 2 ^ base .latches} {m₂ = 2 ^ base .uncontrollable} (omega (arith, replied .solved .few, replied .solved .statesAre)) (omega (arith, replied .few, replied .readingsAre)))
-    ∙ ap (table (λ i. reply (circuitGame c) (i / 2 ^ uncontrollableCount c) (i % 2 ^ uncontrollableCount c))) (sym (pow-add 2 (latchCount c) (uncontrollableCount c)))
+    ∙ replies-front (circuitGame c)
+    (mul-le-mul {n₂ = 2 ^ base .latches} {m₂ = 2 ^ base .uncontrollable} (omega (arith, replied .solved .few, replied .solved .statesAre))
+    (omega (arith, replied .few, replied .readingsAre)))
+    ∙ ap (table (λ i. reply (circuitGame c) (i / 2 ^ uncontrollableCount c) (i % 2 ^ uncontrollableCount c)))
+    (sym (pow-add 2 (latchCount c) (uncontrollableCount c)))
 
-pub attacks-written : (c : Circuit) (states : ℕ) (ranks attacks : List ℕ) → Attacked c states ranks attacks → inTurn (attackRow (ranksIn ranks) (λ s. getD attacks s 0)) states ≡ attackBytes (rank (circuitGame c)) (attack (circuitGame c)) (latchCount c)
+pub attacks-written :
+    (c : Circuit) (states : ℕ) (ranks attacks : List ℕ) → Attacked c states ranks attacks
+    → inTurn (attackRow (ranksIn ranks) (λ s. getD attacks s 0)) states ≡ attackBytes (rank (circuitGame c)) (attack (circuitGame c)) (latchCount c)
 unfolding attackBytes attackRow circuitGame
 attacks-written c states ranks attacks attacked =
-    in-turn-same _ (attackRow (rank (circuitGame c)) (attack (circuitGame c))) states (λ s h. ap₂ (λ (r a : ℕ). digits 256 2 r ++ (a ∷ [])) (rank-is c states ranks (attacked .solved) s h) (at s h))
+    in-turn-same _ (attackRow (rank (circuitGame c)) (attack (circuitGame c))) states
+    (λ s h. ap₂ (λ (r a : ℕ). digits 256 2 r ++ (a ∷ [])) (rank-is c states ranks (attacked .solved) s h) (at s h))
     ∙ rows-in-turn (attackRow (rank (circuitGame c)) (attack (circuitGame c))) states
     ∙ ap (λ (n : ℕ). flatMap (attackRow (rank (circuitGame c)) (attack (circuitGame c))) (table (λ s. s) n)) (attacked .solved .statesAre)
   where
     at : (s : ℕ) → s < states → getD attacks s 0 ≡ attack (circuitGame c) s
-    at s h = ap (λ (l : List ℕ). getD l s 0) (attacked .attacksAre) ∙ attack-in-table (circuitGame c) (few c states ranks (attacked .solved)) s (omega (arith, attacked .solved .statesAre))
+    at s h =
+        ap (λ (l : List ℕ). getD l s 0) (attacked .attacksAre)
+        ∙ attack-in-table (circuitGame c) (few c states ranks (attacked .solved)) s (omega (arith, attacked .solved .statesAre))

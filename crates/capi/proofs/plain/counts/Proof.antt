@@ -1,4 +1,5 @@
 -- `capi::plain::counts` meets its contract: the counts of the circuit's own lists. Assumes nothing.
+use lib.ListN.{take}
 use Rattle.circuit.specs.Stored.{meant}
 use borrow.Author.Needs.{needs}
 use Rattle.capi.proofs.plain.counts.Statement.{statement}
@@ -9,7 +10,9 @@ counts-lent-requires c κs = search needs
 
 returns : tie.Need-returns
 unfolding meant
-returns c = c .counts-lent .ensures
+returns c =
+    let v = c .before .before .before .before .before .before .before .before .args .t1 in
+    c .counts-lent .ensures (v .largest) (v .next) (v .output) (take (v .gates) (v .gate)) (v .left) (v .right)
 
 pub counts-spec : {M : Type 1} → statement M
 counts-spec = tie.close (tie.spec counts-lent-requires returns)

@@ -2,7 +2,7 @@
 use Prim.Native.Nat.{ℕ}
 use mathlib.Core.Path.{ap}
 use lib.Dec.{eqb}
-use Rattle.listing.specs.SolvedText.{inside}
+use Rattle.listing.specs.contracts.SolvedText.{inside}
 use borrow.Author.Needs.{needs}
 use Rattle.listing.proofs.lines.is_inside.Statement.{statement}
 use Rattle.listing.proofs.lines.is_inside.Tie as tie

@@ -1,8 +1,8 @@
 -- `listing::lines::put_attacks` writes a line for each state: each turn writes one more behind those before it. Assumes nothing.
 use Prim.Native.Nat.{_-_}
 use native.Mathlib.Omega.{arith}
-use Rattle.listing.specs.SolvedText.{attackText}
-use Rattle.listing.proofs.laws.Turns.{Turns, turns-start, turns-more, turns-end}
+use Rattle.listing.specs.contracts.SolvedText.{attackText}
+use Rattle.put.proofs.laws.Turns.{Turns, turns-start, turns-more, turns-end}
 use Rattle.listing.proofs.lines.put_attacks.Statement.{statement}
 use Rattle.listing.proofs.lines.put_attacks.Tie as tie
 

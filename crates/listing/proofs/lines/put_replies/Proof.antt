@@ -1,8 +1,8 @@
 -- `listing::lines::put_replies` writes a line for each state: each turn writes one more behind those before it. Assumes nothing.
 use Prim.Native.Nat.{_-_, _^_}
 use native.Mathlib.Omega.{arith}
-use Rattle.listing.specs.SolvedText.{replyText}
-use Rattle.listing.proofs.laws.Turns.{Turns, turns-start, turns-more, turns-end}
+use Rattle.listing.specs.contracts.SolvedText.{replyText}
+use Rattle.put.proofs.laws.Turns.{Turns, turns-start, turns-more, turns-end}
 use Rattle.listing.proofs.lines.put_replies.Statement.{statement}
 use Rattle.listing.proofs.lines.put_replies.Tie as tie
 

@@ -2,8 +2,8 @@
 use Prim.Native.Nat.{_+_, _-_}
 use native.Mathlib.Omega.{arith}
 use lib.ListN.{getD}
-use Rattle.listing.specs.SolvedText.{field}
-use Rattle.listing.proofs.laws.Turns.{Turns, turns-start, turns-more, turns-end}
+use Rattle.listing.specs.contracts.SolvedText.{field}
+use Rattle.put.proofs.laws.Turns.{Turns, turns-start, turns-more, turns-end}
 use Rattle.listing.proofs.lines.put_row.Statement.{statement}
 use Rattle.listing.proofs.lines.put_row.Tie as tie
 

@@ -6,7 +6,7 @@ use mathlib.Core.Path.{refl, sym, ap, _∙_}
 use lib.ListN.{length, getD, take, drop}
 use Rattle.circuit.specs.Stored.{inputsOf}
 use Rattle.net.specs.InOrder.{variables}
-use Rattle.net.specs.Made.{namesIn}
+use Rattle.net.specs.contracts.NamesIn.{namesIn}
 use Rattle.net.specs.NetOf.{nameInputs}
 use Rattle.net.proofs.laws.Naming.{Naming, name-one, Next, next-one, either-few, inputs-named-next, inputs-named-end}
 use Rattle.net.proofs.names.name_inputs.Statement.{statement}

@@ -5,7 +5,7 @@ use native.Mathlib.Omega.{arith}
 use mathlib.Core.Path.{_≡_, refl, sym, ap, _∙_}
 use lib.ListN.{length, take, drop}
 use Rattle.circuit.specs.Stored.{latchesOf}
-use Rattle.net.specs.Made.{namesIn}
+use Rattle.net.specs.contracts.NamesIn.{namesIn}
 use Rattle.net.specs.NetOf.{nameLatches}
 use Rattle.net.proofs.laws.Naming.{Naming, name-one, latches-named-next, latches-named-end}
 use Rattle.net.proofs.names.name_latches.Statement.{statement}

@@ -5,7 +5,7 @@ use native.Mathlib.Omega.{arith}
 use mathlib.Core.Path.{refl, sym, ap, _∙_}
 use lib.ListN.{length, length-set}
 use Rattle.net.specs.InOrder.{variables}
-use Rattle.net.specs.Made.{namesIn}
+use Rattle.net.specs.contracts.NamesIn.{namesIn}
 use Rattle.net.specs.NetOf.{netLiteral}
 use Rattle.net.proofs.laws.Names.{below-more}
 use Rattle.net.proofs.laws.Putting.{Gates, gates-start, gates-next, gates-end}

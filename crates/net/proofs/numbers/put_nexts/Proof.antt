@@ -4,7 +4,7 @@ use Prim.Native.Nat.{ℕ, _+_, _-_}
 use native.Mathlib.Omega.{arith}
 use mathlib.Core.Path.{refl, sym, ap, _∙_}
 use lib.ListN.{length, length-set}
-use Rattle.net.specs.Made.{namesIn}
+use Rattle.net.specs.contracts.NamesIn.{namesIn}
 use Rattle.net.specs.NetOf.{netLiteral}
 use Rattle.net.proofs.laws.Putting.{Nexts, nexts-start, nexts-next, nexts-end}
 use Rattle.net.proofs.numbers.put_nexts.Statement.{statement}

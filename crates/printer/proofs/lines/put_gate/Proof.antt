@@ -28,11 +28,15 @@ same-length c = search needs
 
 returns : tie.Need-returns
 returns c =
-    let a = c .before .before .before .before .before .before .before .before .before .before .before .before .before .before .before .before .before .before .before .args in
+    let a = c .before .before .before .before .before .before .before .before .before .before .before .before .before .before .before .before .before
+    .before .before .args in
     let own = c .before .before .before .before .before .before .before .before .before .before .before .before .put-number .ensures in
     let first = c .before .before .before .before .before .before .before .put-number2 .ensures in
     let second = c .before .before .put-number3 .ensures in (
-      wrote-gate (a .gate .now) (a .left .now) (a .right .now) (a .i) (c .before .before .before .before .before .before .before .before .before .before .before .before .before .literal-at .ensures) (c .before .before .before .before .before .before .before .before .literal-at2 .ensures) (c .before .before .before .literal-at3 .ensures) (own .0) (first .0) (second .0),
+      wrote-gate (a .gate .now) (a .left .now) (a .right .now) (a .i)
+          (c .before .before .before .before .before .before .before .before .before .before .before .before .before .literal-at .ensures)
+          (c .before .before .before .before .before .before .before .before .literal-at2 .ensures) (c .before .before .before .literal-at3 .ensures)
+          (own .0) (first .0) (second .0),
       omega (arith, own .1, first .1, second .1),
     )
 

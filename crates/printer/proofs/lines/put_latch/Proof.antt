@@ -25,7 +25,8 @@ returns c =
     let a = c .before .before .before .before .before .before .before .before .before .before .before .before .before .args in
     let own = c .before .before .before .before .before .before .before .put-number .ensures in
     let second = c .before .before .put-number2 .ensures in (
-      wrote-latch (a .latch .now) (a .next .now) (a .i) (c .before .before .before .before .before .before .before .before .literal-at .ensures) (c .before .before .before .literal-at2 .ensures) (own .0) (second .0),
+      wrote-latch (a .latch .now) (a .next .now) (a .i) (c .before .before .before .before .before .before .before .before .literal-at .ensures)
+          (c .before .before .before .literal-at2 .ensures) (own .0) (second .0),
       omega (arith, own .1, second .1),
     )
 

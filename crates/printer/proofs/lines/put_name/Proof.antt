@@ -39,12 +39,16 @@ same-length c = search needs
 
 returns : tie.Need-returns
 returns c =
-    let a = c .before .before .before .before .before .before .before .before .before .before .before .before .before .before .before .before .before .before .before .before .before .before .before .args in
-    let letter = c .before .before .before .before .before .before .before .before .before .before .before .before .before .before .before .put-bytes .ensures in
+    let a = c .before .before .before .before .before .before .before .before .before .before .before .before .before .before .before .before .before
+    .before .before .before .before .before .before .args in
+    let letter = c .before .before .before .before .before .before .before .before .before .before .before .before .before .before .before .put-bytes
+    .ensures in
     let position = c .before .before .before .before .before .before .before .before .before .before .before .put-number .ensures in
     let start = c .before .before .before .before .before .before .put-bytes2 .ensures in
     let end = c .before .before .put-number2 .ensures in (
-      wrote-name (a .controllable .now) (a .i) (c .before .before .before .before .before .before .before .before .before .before .before .before .before .before .before .before .before .before .if2 .taken) (wrote-put (omega (arith, letter .0)) (letter .1)) (position .0) (wrote-put (omega (arith, start .0)) (start .1)) (end .0),
+      wrote-name (a .controllable .now) (a .i)
+          (c .before .before .before .before .before .before .before .before .before .before .before .before .before .before .before .before .before
+          .before .if2 .taken) (wrote-put (omega (arith, letter .0)) (letter .1)) (position .0) (wrote-put (omega (arith, start .0)) (start .1)) (end .0),
       omega (arith, letter .0, position .1, start .0, end .1),
     )
 

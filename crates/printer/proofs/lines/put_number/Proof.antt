@@ -12,10 +12,14 @@ put-decimal-requires : tie.Need-put-decimal-requires
 put-decimal-requires c κs = search needs
 
 add-last : tie.Need-add-last
-add-last c = omega (arith, length-decimal-most 19 (c .before .before .before .before .before .args .n) (omega arith), c .before .before .put-decimal .ensures .0)
+add-last c =
+    omega
+    (arith, length-decimal-most 19 (c .before .before .before .before .before .args .n) (omega arith), c .before .before .put-decimal .ensures .0)
 
 add-behind : tie.Need-add-behind
-add-behind c = omega (arith, length-decimal-most 19 (c .before .before .before .before .before .args .n) (omega arith), c .before .before .put-decimal .ensures .0)
+add-behind c =
+    omega
+    (arith, length-decimal-most 19 (c .before .before .before .before .before .args .n) (omega arith), c .before .before .put-decimal .ensures .0)
 
 slice-write-out : tie.Need-slice-write-out
 slice-write-out c = search needs

@@ -1,11 +1,14 @@
 // Saves bytes as a file: they are written under a temporary name beside its place, which is then renamed. So the file is never seen
 // half written, and where there is trouble it stays as it was.
+use crate::argument;
+use crate::front;
 use crate::place;
 
-// Saves bytes as the file that an argument names, and answers whether they are saved.
-pub(crate) fn save_argument(i: usize, bytes: &[u8]) -> bool {
+// Saves a certificate's bytes as the file that an argument names, and answers whether they are saved. Nothing may stand there but a
+// certificate.
+pub fn save_argument(i: usize, bytes: &[u8]) -> bool {
     let mut name = io::buffer();
-    let filled = desk::argument(i, &mut name);
+    let filled = argument(i, &mut name);
     if filled.trouble {
         return false;
     }
@@ -22,7 +25,7 @@ fn save_behind_links(name: &[u8], bytes: &[u8]) -> bool {
 fn save(name: &[u8], bytes: &[u8]) -> bool {
     let mut space = io::buffer();
     let n = put_temporary(&mut space, name);
-    let end = desk::front(&space, n);
+    let end = front(&space, n);
     save_by(&space[..end], name, bytes)
 }
 

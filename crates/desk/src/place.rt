@@ -1,4 +1,8 @@
 // A certificate's place. Links are followed, and a file that stands there is replaced only if it is a certificate: any other stays.
+use crate::CERTIFICATE;
+use crate::blank_certificate;
+use crate::front;
+use crate::tell;
 use bits::bytes::byte_at;
 use libc::PATH_MAX;
 use records::Shape;
@@ -32,15 +36,15 @@ fn is_missing(name: &[u8]) -> bool {
 fn holds_certificate(fd: i32, name: &[u8]) -> bool {
     let end = libc::lseek(fd, 0, libc::SEEK_END);
     if end < 0 {
-        desk::tell(
+        tell(
             name,
             b"isn't a regular file, so no certificate is written to it",
         );
         return false;
     }
-    let certificate = end <= desk::CERTIFICATE as i64 && starts_as_one(fd);
+    let certificate = end <= CERTIFICATE as i64 && starts_as_one(fd);
     if !certificate {
-        desk::tell(
+        tell(
             name,
             b"exists and isn't a certificate, so it stays as it is",
         );
@@ -49,7 +53,7 @@ fn holds_certificate(fd: i32, name: &[u8]) -> bool {
 }
 
 fn starts_as_one(fd: i32) -> bool {
-    let mut space = desk::blank_certificate();
+    let mut space = blank_certificate();
     libc::lseek(fd, 0, libc::SEEK_SET);
     let n = io::read_full(fd, &mut space);
     has_shape(&space[..n])
@@ -72,13 +76,13 @@ pub(crate) fn follow(name: &[u8], space: &mut [u8]) -> usize
         n = follow_once(space, n);
         left -= 1;
     }
-    desk::front(space, n)
+    front(space, n)
 }
 
 // A link's name is replaced by where it leads: another name, or one beside it.
 fn follow_once(space: &mut [u8], n: usize) -> usize {
     let mut to = io::buffer();
-    let end = desk::front(space, n);
+    let end = front(space, n);
     let m = leads(&space[..end], &mut to);
     if m == 0 {
         return n;

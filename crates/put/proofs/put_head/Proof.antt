@@ -1,10 +1,8 @@
--- `writer::tables::put_head` writes the six bytes of a head. Assumes nothing.
-use native.Mathlib.Omega.{arith}
+-- `put::put_head` puts the six bytes of a head. Assumes nothing.
 use Rattle.bits.specs.Digits.{digits}
-use Rattle.bits.proofs.laws.Wrote.{wrote-put}
 use borrow.Author.Needs.{needs}
-use Rattle.writer.proofs.tables.put_head.Statement.{statement}
-use Rattle.writer.proofs.tables.put_head.Tie as tie
+use Rattle.put.proofs.put_head.Statement.{statement}
+use Rattle.put.proofs.put_head.Tie as tie
 
 cast-t7 : tie.Need-cast-t7
 cast-t7 c = search needs
@@ -30,15 +28,12 @@ slice-aggregate-put-bytes c = search needs
 put-bytes-requires : tie.Need-put-bytes-requires
 put-bytes-requires c κs = search needs
 
-add-result : tie.Need-add-result
-add-result c = search needs
-
 same-length : tie.Need-same-length
 same-length c = search needs
 
 returns : tie.Need-returns
 unfolding digits
-returns c = let w = c .before .before .put-bytes .ensures in wrote-put (omega (arith, w .0)) (w .1)
+returns c = c .before .before .put-bytes .ensures
 
 pub put-head-spec : {M : Type 1} → statement M
 put-head-spec =
@@ -52,6 +47,5 @@ put-head-spec =
     cast-t24
     slice-aggregate-put-bytes
     put-bytes-requires
-    add-result
     same-length
     returns)

@@ -1,8 +1,8 @@
--- `certify::place::folder` is safe and ends: the bytes that are left grow fewer. Assumes nothing.
+-- `desk::place::folder` is safe and ends: the bytes that are left grow fewer. Assumes nothing.
 use Prim.Native.Nat.{_≤_}
 use borrow.Author.Needs.{needs}
-use Rattle.certify.proofs.place.folder.Statement.{statement}
-use Rattle.certify.proofs.place.folder.Tie as tie
+use Rattle.desk.proofs.place.folder.Statement.{statement}
+use Rattle.desk.proofs.place.folder.Tie as tie
 
 abbrev Inv-loop : tie.InvT-loop
 Inv-loop name n₀ n = n ≤ n₀

@@ -1,4 +1,4 @@
--- `certify::save::positive` casts a number above 0, which the wider type has too. Assumes nothing.
+-- `desk::save::positive` casts a number above 0, which the wider type has too. Assumes nothing.
 use mathlib.Core.Path.{_≡_, sym, subst}
 use mathlib.Core.Bool.{true}
 use native.Mathlib.Nat.{lt-of-le-of-lt}
@@ -9,8 +9,8 @@ use lib.Signed.{ltZ, nonNeg, natAbs-le}
 use mir.Syntax.{w32, w64}
 use mir.Val.{Fits, toZ, ofZ}
 use mir.ValLaws.{toZ-ofZ}
-use Rattle.certify.proofs.save.positive.Statement.{statement}
-use Rattle.certify.proofs.save.positive.Tie as tie
+use Rattle.desk.proofs.save.positive.Statement.{statement}
+use Rattle.desk.proofs.save.positive.Tie as tie
 
 above-zero : (z : ℤ) → ltZ (pos 0) z ≡ true → T (nonNeg z)
 above-zero (pos n) e = tt

@@ -1,9 +1,9 @@
--- `certify::place::follow` is safe and ends: the links that may still be followed grow fewer, and the space keeps its length. Assumes nothing.
+-- `desk::place::follow` is safe and ends: the links that may still be followed grow fewer, and the space keeps its length. Assumes nothing.
 use mathlib.Core.Path.{_≡_}
 use lib.ListN.{length}
 use borrow.Author.Needs.{needs}
-use Rattle.certify.proofs.place.follow.Statement.{statement}
-use Rattle.certify.proofs.place.follow.Tie as tie
+use Rattle.desk.proofs.place.follow.Statement.{statement}
+use Rattle.desk.proofs.place.follow.Tie as tie
 
 abbrev Inv-loop : tie.InvT-loop
 Inv-loop name space₀ n₀ left₀ space n left = length space ≡ length space₀

@@ -21,8 +21,8 @@ module _ (f : ℕ → List ℕ) (width n at : ℕ) {before : List ℕ} where
   pub turns-more :
       {mid next i : ℕ} {between after : List ℕ} → Turns f width n at before between mid i → i < n → Wrote (f i) mid between after next → next ≤ mid + width
       → Turns f width n at before after next (i + 1)
-  turns-more {i =
-      i} t h w m = record { wrote = wrote-turn f i (t .wrote) w; within = omega arith; most = omega (arith, t .most, mul-add width i 1, mul-one width) }
+  turns-more {mid} {next} {i} t h w m =
+      record { wrote = wrote-turn f i (t .wrote) w; within = omega arith; most = omega (arith, t .most, mul-add width i 1, mul-one width) }
 
   pub turns-end :
       {next i : ℕ} {after : List ℕ} → Turns f width n at before after next i → n ≤ i → Wrote (inTurn f n) at before after next × (next ≤ at + width * n)
