@@ -2,12 +2,10 @@ pub mod Numbers
 pub mod Rules
 pub mod Check
 pub mod Answer
-pub mod CircuitChecked
-pub mod Sized
-pub mod Faults
 pub mod StoredRegion
 pub mod WrongTables
 pub mod WrongReset
 pub mod Breaks
 pub mod Lowest
 pub mod CheckRow
+pub mod contracts

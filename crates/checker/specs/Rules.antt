@@ -16,11 +16,12 @@ use Rattle.records.specs.RegionBits.{regionLength, holdsState, unusedBitSet}
 use Rattle.records.specs.ReplyBytes.{replyLength, storedReply}
 
 -- 13: wrong length, or unused region bit 1
+abbrev pub badlySized : (region table : List ℕ) (L U : ℕ) → Bool
+badlySized region table L U =
+    not (eqb (length region) (regionLength L)) || not (eqb (length table) (replyLength L U)) || unusedBitSet region L
+
 unfoldable pub badReplyTables : Circuit → (region table : List ℕ) → Bool
-badReplyTables c region table =
-    not (eqb (length region) (regionLength (latchCount c)))
-    || not (eqb (length table) (replyLength (latchCount c) (uncontrollableCount c)))
-    || unusedBitSet region (latchCount c)
+badReplyTables c region table = badlySized region table (latchCount c) (uncontrollableCount c)
 
 unfoldable pub badAttackTable : Circuit → (table : List ℕ) → Bool
 badAttackTable c table = not (eqb (length table) (attackLength (latchCount c)))
@@ -44,8 +45,14 @@ brokenReply c region table =
     (i / g .readings) (i % g .readings))
     (g .states * g .readings)
 
+abbrev pub someReplyBroken : Circuit → (region table : List ℕ) → Bool
+someReplyBroken c region table = ltb (brokenReply c region table) (circuitGame c .states * circuitGame c .readings)
+
 -- the lowest s whose attack breaks it, or 2^L where none does
 unfoldable pub brokenAttack : Circuit → (table : List ℕ) → ℕ
 brokenAttack c table =
     let g = circuitGame c in
     least (attackBroken g (storedRank table (latchCount c)) (storedAttack table (latchCount c))) (g .states)
+
+abbrev pub someAttackBroken : Circuit → (table : List ℕ) → Bool
+someAttackBroken c table = ltb (brokenAttack c table) (circuitGame c .states)

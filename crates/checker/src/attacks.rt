@@ -16,22 +16,20 @@ ghost use Prim.Native.Nat.{ℕ, _+_, _-_, _^_, min};
 ghost use mathlib.Core.Path.{_≡_};
 ghost use Rattle.below.specs.Least.{least, any};
 ghost use Rattle.blocks.specs.Lane.{width, litsIn};
-ghost use Rattle.circuit.specs.Circuit.{Circuit};
 ghost use Rattle.game.specs.Keeps.{answered};
 ghost use Rattle.game.specs.NetGame.{netGame, keepsBy};
 ghost use Rattle.game.specs.Rank.{notRanked};
-ghost use Rattle.net.specs.Net.{netLatches, netReadings, netControls};
-ghost use Rattle.net.specs.NetOf.{netOf};
+ghost use Rattle.net.specs.Net.{netLatches};
 ghost use Rattle.records.specs.AttackTable.{storedRank};
-ghost use Rattle.checker.specs.Answer.{ofAttacks, checkedOutcome};
-ghost use Rattle.checker.specs.CircuitChecked.{attacksJudged};
-ghost use Rattle.checker.specs.Faults.{attackFault};
-ghost use Rattle.checker.specs.Sized.{Sized};
+ghost use Rattle.checker.specs.Answer.{checkedOutcome};
+ghost use Rattle.checker.specs.contracts.Faults.{attackFault};
+ghost use Rattle.checker.specs.contracts.Sized.{Sized};
+ghost use Rattle.checker.specs.contracts.TablesAs.{attacksFrom, AttacksAs};
 
 // 13, 14 and 15 of an attack table; where it starts is answered where none applies.
 pub(crate) fn check_attacks<'a>(net: &'a [u16], table: &'a [u8], start: usize) -> Checked
     requires { ⌜ Sized (now net) ⌝ }
-    ensures { λ r. ⌜ ((c : Circuit) → now (net .entry) ≡ netOf c → checkedOutcome r ≡ attacksJudged c (now (table .entry)) (ofAttacks start (netLatches (now (net .entry))) (netReadings (now (net .entry))))) ⌝ }
+    ensures { λ r. ⌜ AttacksAs (now (net .entry)) (now (table .entry)) (attacksFrom (now (net .entry)) start) (checkedOutcome r) ⌝ }
 {
     let latches = latches_of(net);
     let states = power(latches);

@@ -14,22 +14,19 @@ use rules::lane_keeps_region;
 use step::Control;
 use step::Reading;
 ghost use Prim.Native.Nat.{ℕ, _+_, _*_, _/_, _%_, _^_, _<_, _≤_};
-ghost use mathlib.Core.Bool.{true, not, _||_};
+ghost use mathlib.Core.Bool.{true};
 ghost use mathlib.Core.Path.{_≡_};
-ghost use lib.Dec.{eqb};
 ghost use lib.ListN.{length};
 ghost use Rattle.below.specs.Least.{least};
 ghost use Rattle.blocks.specs.Lane.{width};
-ghost use Rattle.circuit.specs.Circuit.{Circuit};
 ghost use Rattle.circuit.specs.Limits.{base};
 ghost use Rattle.net.specs.Net.{netLatches, netReadings};
-ghost use Rattle.net.specs.NetOf.{netOf};
-ghost use Rattle.records.specs.RegionBits.{regionLength, holdsState, unusedBitSet};
-ghost use Rattle.records.specs.ReplyBytes.{replyLength};
-ghost use Rattle.checker.specs.Answer.{ofReplies, checkedOutcome};
-ghost use Rattle.checker.specs.CircuitChecked.{repliesJudged};
-ghost use Rattle.checker.specs.Faults.{replyFault, replyMove};
-ghost use Rattle.checker.specs.Sized.{Sized, Holding};
+ghost use Rattle.records.specs.RegionBits.{holdsState, unusedBitSet};
+ghost use Rattle.checker.specs.Answer.{checkedOutcome};
+ghost use Rattle.checker.specs.Rules.{badlySized};
+ghost use Rattle.checker.specs.contracts.Faults.{replyFault, replyMove};
+ghost use Rattle.checker.specs.contracts.Sized.{Sized, Holding};
+ghost use Rattle.checker.specs.contracts.TablesAs.{repliesFrom, RepliesAs};
 
 // 13, 14 and 15 of a region and a reply table; where they start is answered where none applies.
 pub(crate) fn check_replies<'a>(
@@ -40,7 +37,7 @@ pub(crate) fn check_replies<'a>(
     replies: usize,
 ) -> Checked
     requires { ⌜ Sized (now net) ⌝ }
-    ensures { λ r. ⌜ ((c : Circuit) → now (net .entry) ≡ netOf c → checkedOutcome r ≡ repliesJudged c (now (region .entry)) (now (table .entry)) (ofReplies start replies (netLatches (now (net .entry))) (netReadings (now (net .entry))))) ⌝ }
+    ensures { λ r. ⌜ RepliesAs (now (net .entry)) (now (region .entry)) (now (table .entry)) (repliesFrom (now (net .entry)) start replies) (checkedOutcome r) ⌝ }
 {
     let latches = latches_of(net);
     let readings = readings_of(net);
@@ -75,7 +72,7 @@ pub(crate) fn check_replies<'a>(
 fn badly_sized<'a>(region: &'a [u8], table: &'a [u8], latches: usize, readings: usize) -> bool
     requires { ⌜ latches ≤ base .latches ⌝ }
     requires { ⌜ readings ≤ base .uncontrollable ⌝ }
-    ensures { λ r. ⌜ r ≡ (not (eqb (length (now (region .entry))) (regionLength latches)) || not (eqb (length (now (table .entry))) (replyLength latches readings)) || unusedBitSet (now (region .entry)) latches) ⌝ }
+    ensures { λ r. ⌜ r ≡ badlySized (now (region .entry)) (now (table .entry)) latches readings ⌝ }
 {
     if region.len() != (power(latches) + 7) / 8 {
         return true;

@@ -1,0 +1,4 @@
+pub mod Sized
+pub mod FileNet
+pub mod TablesAs
+pub mod Faults
