@@ -2,21 +2,16 @@
 -- Assumes nothing.
 use Prim.Native.Nat.{ℕ}
 use mathlib.Core.Bool.{Bool, not}
-use mathlib.Core.List.{List, [], _∷_}
+use mathlib.Core.List.{List}
 use mathlib.Core.Option.{Option, none, some}
 use Rattle.bits.specs.Bytes.{sameBytes}
 use Rattle.circuit.specs.Circuit.{Circuit}
 use Rattle.circuit.specs.Outcome.{Outcome, taken, refused, _>>=_, _>>_, refuseIf}
 use Rattle.file.specs.CircuitIn.{circuitIn}
-use Rattle.records.specs.Record.{replyKind}
-use Rattle.records.specs.Tables.{Tables, replies, attacks, tablesOf, circuitPart}
+use Rattle.records.specs.Tables.{acceptedKinds, Tables, replies, attacks, tablesOf, circuitPart}
 use Rattle.checker.specs.Numbers.{badShape, otherCircuit, badTable, badReset, brokenStep}
 use Rattle.checker.specs.Rules.{badReplyTables, badAttackTable, resetOutside, resetUnranked}
 use Rattle.checker.specs.Rules.{brokenReply, someReplyBroken, brokenAttack, someAttackBroken}
-
--- the kinds of reply record that the check takes
-abbrev pub acceptedKinds : List ℕ
-acceptedKinds = replyKind ∷ []
 
 unfoldable pub orBadShape : Option Tables → Outcome Tables
 orBadShape none = refused badShape 0

@@ -1,9 +1,9 @@
 -- `checker::check_net` meets its contract: the shape names the tables as parts of the certificate, and they are judged. Assumes nothing.
 use mathlib.Core.Path.{sym, _∙_}
 use borrow.Author.Tests.{not-true, not-false}
+use Rattle.records.specs.Tables.{acceptedKinds}
 use Rattle.records.proofs.laws.Parts.{ReplyParts, AttackParts, reply-parts, attack-parts, shape-other}
 use Rattle.checker.specs.Answer.{checkedOutcome}
-use Rattle.checker.specs.Check.{acceptedKinds}
 use Rattle.checker.proofs.laws.Shaped.{misshapen, replies-of-other, replies-of-same, attacks-of-other, attacks-of-same}
 use borrow.Author.Needs.{needs}
 use Rattle.checker.proofs.check_net.Statement.{statement}

@@ -7,6 +7,7 @@ use mathlib.Core.Logic.{_↔_}
 use mathlib.Core.Path.{_≡_, refl, sym, ap, _∙_}
 use borrow.Author.Tests.{ltb-true, ltb-false, lt-ltb, le-ltb}
 use lib.Dec.{ltb}
+use Rattle.below.proofs.laws.Says.{test-fails, fails-test}
 use Rattle.bits.proofs.laws.Bytes.{both-true}
 use Rattle.circuit.specs.Circuit.{Circuit, latchCount, uncontrollableCount, controllableCount}
 use Rattle.game.specs.Attack.{attackBroken}
@@ -24,7 +25,7 @@ use Rattle.records.specs.ReplyBytes.{storedReply}
 use Rattle.step.specs.Step.{step}
 use Rattle.checker.specs.Breaks.{replyAt, attackAt, ReplyBreaks, noControl, errs, leadsOut, RankFalls, AttackBreaks, noReading, escapes}
 use Rattle.checker.specs.StoredRegion.{Holds}
-use Rattle.checker.proofs.laws.WrongTables.{test-fails, fails-test, holds-state}
+use Rattle.checker.proofs.laws.WrongTables.{holds-state}
 
 -- a state of a set whose reply is no control, errs, or leads out
 data Fails (below error held : Bool) : Type 0 where

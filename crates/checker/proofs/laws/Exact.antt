@@ -6,14 +6,15 @@ use mathlib.Core.List.{List}
 use mathlib.Core.Logic.{_↔_}
 use mathlib.Core.Option.{Option, none, some}
 use mathlib.Core.Path.{_≡_, refl, sym, ap, _∙_, subst}
+use Rattle.below.proofs.laws.Says.{test-fails, fails-test}
 use Rattle.bits.specs.Bytes.{sameBytes}
 use Rattle.bits.proofs.laws.Bytes.{same-bytes-equal, same-bytes-refl}
 use Rattle.circuit.specs.Circuit.{Circuit}
 use Rattle.circuit.specs.Outcome.{Outcome, taken, refused, refuseIf}
 use Rattle.file.specs.CircuitIn.{circuitIn}
-use Rattle.records.specs.Tables.{Tables, replies, attacks, tablesOf, circuitPart}
+use Rattle.records.specs.Tables.{acceptedKinds, Tables, replies, attacks, tablesOf, circuitPart}
 use Rattle.checker.specs.Answer.{answerOf}
-use Rattle.checker.specs.Check.{acceptedKinds, judgedBy, tablesChecked, checkOf}
+use Rattle.checker.specs.Check.{judgedBy, tablesChecked, checkOf}
 use Rattle.checker.specs.CheckRow.{Judged, thirteen, fourteen, fifteen, TablesBroken, CheckRow, ofFile, eleven, twelve, inTables}
 use Rattle.checker.specs.Lowest.{LowestReply, LowestAttack}
 use Rattle.checker.specs.Rules.{badReplyTables, badAttackTable, resetOutside, resetUnranked}
@@ -22,7 +23,7 @@ use Rattle.checker.specs.WrongReset.{ResetNotHeld, ResetOfRankZero}
 use Rattle.checker.specs.WrongTables.{WrongReplies, WrongAttacks}
 use Rattle.checker.proofs.laws.Lowest.{lowest-reply, reply-lowest, lowest-attack, attack-lowest}
 use Rattle.checker.proofs.laws.Stages.{misshapen-refused, other-refused, same-goes-on, file-refused, answer-refused}
-use Rattle.checker.proofs.laws.WrongTables.{test-fails, fails-test, replies-wrong, attacks-wrong, reset-not-held, reset-of-rank-zero}
+use Rattle.checker.proofs.laws.WrongTables.{replies-wrong, attacks-wrong, reset-not-held, reset-of-rank-zero}
 
 -- what an outcome says: a refusal has its row
 abbrev Said : (ℕ → ℕ → Type 0) → Outcome Tables → Type 0

@@ -11,6 +11,7 @@ use lib.Dec.{ltb}
 use lib.Pow.{pow-pos}
 use Rattle.below.specs.Least.{least}
 use Rattle.below.proofs.laws.Least.{least-holds, least-before, least-is}
+use Rattle.below.proofs.laws.Says.{fails-test}
 use Rattle.circuit.specs.Circuit.{Circuit, latchCount, uncontrollableCount}
 use Rattle.game.specs.Attack.{attackBroken}
 use Rattle.game.specs.CircuitGame.{circuitGame}
@@ -21,7 +22,6 @@ use Rattle.records.specs.ReplyBytes.{storedReply}
 use Rattle.checker.specs.Lowest.{LowestReply, LowestAttack}
 use Rattle.checker.specs.Rules.{brokenReply, brokenAttack}
 use Rattle.checker.proofs.laws.Breaks.{reply-breaks, attack-breaks}
-use Rattle.checker.proofs.laws.WrongTables.{fails-test}
 
 -- a test that fails below a place holds at none below it
 not-below : (p : ℕ → Bool) (n i : ℕ) → p i ≡ true → least p n ≤ i

@@ -14,10 +14,10 @@ use Rattle.circuit.specs.Outcome.{taken, _>>=_, _>>_, refuseIf}
 use Rattle.circuit.proofs.laws.Outcome.{refused-is-not-taken, bind-taken, passed-test}
 use Rattle.file.specs.CircuitIn.{circuitIn}
 use Rattle.records.specs.Record.{recordOf, whole, circuitKind}
-use Rattle.records.specs.Tables.{Tables, replies, attacks, tablesOf, circuitPart}
+use Rattle.records.specs.Tables.{acceptedKinds, Tables, replies, attacks, tablesOf, circuitPart}
 use Rattle.records.proofs.laws.Record.{whole-record}
 use Rattle.records.proofs.laws.Tables.{tables-begin}
-use Rattle.checker.specs.Check.{acceptedKinds, orBadShape, tablesChecked, checkOf}
+use Rattle.checker.specs.Check.{orBadShape, tablesChecked, checkOf}
 use Rattle.checker.specs.Numbers.{otherCircuit}
 use Rattle.checker.specs.Rules.{badReplyTables, badAttackTable, resetOutside, resetUnranked}
 use Rattle.checker.specs.Rules.{brokenReply, someReplyBroken, brokenAttack, someAttackBroken}

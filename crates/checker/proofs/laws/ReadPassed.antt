@@ -23,13 +23,14 @@ use Rattle.records.specs.Passed.{replyIn}
 use Rattle.records.specs.Record.{headLength}
 use Rattle.records.specs.RegionBits.{regionLength, holdsState, unusedBitSet}
 use Rattle.records.specs.ReplyBytes.{replyLength, storedReply}
-use Rattle.records.specs.Shape.{shapeOf, part}
-use Rattle.records.specs.Tables.{Tables, replies, attacks}
+use Rattle.records.specs.Shape.{shapeOf}
+use Rattle.records.specs.Tables.{acceptedKinds, Tables, replies, attacks}
+use Rattle.records.specs.contracts.Part.{part}
 use Rattle.records.proofs.laws.Parts.{reply-parts, attack-parts}
 use Rattle.records.proofs.laws.Passed.{reply-inside, region-in-front, replies-in-front, ranks-in-front, attacks-in-front}
 use Rattle.records.proofs.laws.Tables.{tables-begin}
 use Rattle.checker.specs.Answer.{Starts, ofReplies, ofAttacks, startsOf, answerOf}
-use Rattle.checker.specs.Check.{acceptedKinds, checkOf}
+use Rattle.checker.specs.Check.{checkOf}
 use Rattle.checker.specs.Rules.{badReplyTables, badAttackTable}
 use Rattle.checker.proofs.laws.Means.{passes-for, replies-hold, replies-realizable, attacks-err, attacks-unrealizable}
 use Rattle.checker.proofs.laws.Pass.{RepliesPass, AttacksPass, pass-is}

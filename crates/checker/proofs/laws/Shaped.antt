@@ -11,12 +11,12 @@ use Rattle.circuit.specs.Circuit.{Circuit}
 use Rattle.circuit.specs.Outcome.{Outcome, taken, refused, _>>_}
 use Rattle.net.specs.Net.{netLatches, netReadings}
 use Rattle.records.specs.Record.{headLength}
-use Rattle.records.specs.Shape.{part}
-use Rattle.records.specs.Tables.{Tables, replies, attacks, circuitPart, tablesOf}
+use Rattle.records.specs.Tables.{acceptedKinds, Tables, replies, attacks, circuitPart, tablesOf}
+use Rattle.records.specs.contracts.Part.{part}
 use Rattle.records.proofs.laws.Parts.{ReplyParts, AttackParts}
 use Rattle.records.proofs.laws.Shape.{length-part}
 use Rattle.checker.specs.Answer.{Starts, ofReplies, ofAttacks, startsOf, answerOf}
-use Rattle.checker.specs.Check.{acceptedKinds, tablesChecked}
+use Rattle.checker.specs.Check.{tablesChecked}
 use Rattle.checker.specs.Numbers.{badShape, otherCircuit}
 use Rattle.checker.specs.contracts.FileNet.{FileNet}
 use Rattle.checker.specs.contracts.TablesAs.{repliesFrom, attacksFrom, RepliesAs, AttacksAs}

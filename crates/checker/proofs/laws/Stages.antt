@@ -11,9 +11,9 @@ use Rattle.circuit.specs.Circuit.{Circuit}
 use Rattle.circuit.specs.Outcome.{Outcome, taken, refused, _>>=_, refuseIf}
 use Rattle.file.specs.CircuitIn.{circuitIn}
 use Rattle.file.proofs.laws.Exact.{told-refused}
-use Rattle.records.specs.Tables.{Tables, tablesOf, circuitPart}
+use Rattle.records.specs.Tables.{acceptedKinds, Tables, tablesOf, circuitPart}
 use Rattle.checker.specs.Answer.{startsOf, answerOf}
-use Rattle.checker.specs.Check.{acceptedKinds, orBadShape, tablesChecked, checkOf}
+use Rattle.checker.specs.Check.{orBadShape, tablesChecked, checkOf}
 use Rattle.checker.specs.Numbers.{badShape, otherCircuit}
 
 module _ (file certificate : List ℕ) where
