@@ -1,4 +1,5 @@
 pub mod Numbers
+pub mod StoredFor
 pub mod Rules
 pub mod Check
 pub mod Answer

@@ -8,7 +8,7 @@ use borrow.Author.Tests.{lt-ltb, le-ltb, eq-eqb, ne-eqb}
 use lib.Dec.{eqb, ltb}
 use lib.ListN.{length}
 use lib.Pow.{pow-add, pow-pos}
-use Rattle.below.specs.Least.{least, any, every}
+use Rattle.below.specs.Least.{any, every}
 use Rattle.below.proofs.laws.Least.{any-of, none-any}
 use Rattle.circuit.specs.Circuit.{Circuit, latchCount, uncontrollableCount}
 use Rattle.circuit.specs.Outcome.{Outcome, taken, refused, _>>_}
@@ -24,8 +24,8 @@ use Rattle.checker.specs.Check.{tablesChecked}
 use Rattle.checker.specs.Numbers.{badTable, badReset, brokenStep}
 use Rattle.checker.specs.Rules.{badlySized, badReplyTables, badAttackTable, resetOutside, resetUnranked}
 use Rattle.checker.specs.Rules.{brokenReply, someReplyBroken, brokenAttack, someAttackBroken}
-use Rattle.checker.specs.contracts.Faults.{replyFault, attackFault}
-use Rattle.checker.specs.contracts.TablesAs.{repliesFrom, attacksFrom, RepliesAs, AttacksAs}
+use Rattle.checker.specs.contracts.Faults.{firstReplyFault, firstAttackFault}
+use Rattle.checker.specs.contracts.TablesAs.{RepliesAs, AttacksAs}
 use Rattle.checker.proofs.laws.Counted.{net-latches-are, net-readings-are}
 use Rattle.checker.proofs.laws.Faults.{broken-reply-is, broken-attack-is}
 use Rattle.checker.proofs.laws.JudgedBy.{judged-bad, judged-reset, judged-broken, judged-fine}
@@ -68,7 +68,7 @@ told o judged passed e = ap (λ (p : Outcome Tables). p >> passed) (sym e)
 module _ (net region table : List ℕ) (L U start behind : ℕ) (latches : L ≡ netLatches net) (readings : U ≡ netReadings net) (bad : Bool)
     (sizes : bad ≡ badlySized region table L U) where
   abbrev Answers : Outcome Starts → Type 0
-  Answers answer = RepliesAs net region table (repliesFrom net start behind) answer
+  Answers answer = RepliesAs net region table start behind answer
 
   module _ (c : Circuit) (is : net ≡ netOf c) where
     same-latches : L ≡ latchCount c
@@ -84,7 +84,7 @@ module _ (net region table : List ℕ) (L U start behind : ℕ) (latches : L ≡
     outside-is : (b : Bool) → holdsState region L 0 ≡ b → resetOutside c region ≡ not b
     outside-is b e = reset-outside-is c region ∙ ap not (ap (λ (n : ℕ). holdsState region n 0) (sym same-latches) ∙ e)
 
-    place-is : (place : ℕ) → place ≡ least (replyFault net region table) (2 ^ (netLatches net + netReadings net)) → place ≡ brokenReply c region table
+    place-is : (place : ℕ) → place ≡ firstReplyFault net region table → place ≡ brokenReply c region table
     place-is place e = e ∙ broken-reply-is c net is region table
 
     broken-is : (place : ℕ) → place ≡ brokenReply c region table → someReplyBroken c region table ≡ ltb place (2 ^ (L + U))
@@ -102,7 +102,7 @@ module _ (net region table : List ℕ) (L U start behind : ℕ) (latches : L ≡
     replies-badly-reset f c is circuit kind = told _ _ _ (judged-reset _ _ _ _ _ (bad-is c is ∙ sized) (outside-is c is false f))
 
     module _ (f : holdsState region L 0 ≡ true) (place : ℕ)
-        (lowest : place ≡ least (replyFault net region table) (2 ^ (netLatches net + netReadings net))) where
+        (lowest : place ≡ firstReplyFault net region table) where
       pub replies-broken : place < 2 ^ (L + U) → Answers (refused brokenStep place)
       unfolding tablesChecked
       replies-broken h c is circuit kind =
@@ -119,7 +119,7 @@ module _ (net region table : List ℕ) (L U start behind : ℕ) (latches : L ≡
 
 module _ (net table : List ℕ) (L start states rank : ℕ) (latches : L ≡ netLatches net) (all : states ≡ 2 ^ L) (ranked : rank ≡ storedRank table L 0) where
   abbrev Told : Outcome Starts → Type 0
-  Told answer = AttacksAs net table (attacksFrom net start) answer
+  Told answer = AttacksAs net table start answer
 
   module _ (c : Circuit) (is : net ≡ netOf c) where
     states-are : states ≡ 2 ^ latchCount c
@@ -150,7 +150,7 @@ module _ (net table : List ℕ) (L start states rank : ℕ) (latches : L ≡ net
     unfolding tablesChecked
     attacks-badly-reset f c is circuit = told _ _ _ (judged-reset _ _ _ _ _ (fits c is) (unranked-is c is ∙ eq-eqb _ _ f))
 
-    module _ (f : rank ≡ 0 → ⊥) (place : ℕ) (lowest : place ≡ least (attackFault net table) (2 ^ netLatches net)) where
+    module _ (f : rank ≡ 0 → ⊥) (place : ℕ) (lowest : place ≡ firstAttackFault net table) where
       pub attacks-broken : place < states → Told (refused brokenStep place)
       unfolding tablesChecked
       attacks-broken h c is circuit =

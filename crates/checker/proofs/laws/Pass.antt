@@ -10,7 +10,7 @@ use Rattle.bits.specs.Bytes.{sameBytes}
 use Rattle.bits.specs.Digits.{AllBelow}
 use Rattle.bits.proofs.laws.Bytes.{same-bytes-equal}
 use Rattle.circuit.specs.Circuit.{Circuit}
-use Rattle.circuit.specs.Outcome.{taken, _>>=_, _>>_, refuseIf}
+use Rattle.circuit.specs.Outcome.{Outcome, taken, _>>=_, _>>_, refuseIf}
 use Rattle.circuit.proofs.laws.Outcome.{refused-is-not-taken, bind-taken, passed-test}
 use Rattle.file.specs.CircuitIn.{circuitIn}
 use Rattle.records.specs.Record.{recordOf, whole, circuitKind}
@@ -64,8 +64,10 @@ pub pass-is : (file certificate : List ℕ) (t : Tables) → checkOf file certif
 unfolding checkOf
 pass-is file certificate t e =
     let shape = orBadShape (tablesOf acceptedKinds certificate) in
-    let (c, reads, e1) = bind-taken (circuitIn file) (λ c. shape >>= λ u. refuseIf (not (sameBytes (circuitPart u) file)) otherCircuit 0 >> tablesChecked c u) t e in
-    let (u, shaped, e2) = bind-taken shape (λ u. refuseIf (not (sameBytes (circuitPart u) file)) otherCircuit 0 >> tablesChecked c u) t e1 in
+    let on : Circuit → Tables → Outcome Tables =
+    λ c u. refuseIf (not (sameBytes (circuitPart u) file)) otherCircuit 0 >> tablesChecked c u in
+    let (c, reads, e1) = bind-taken (circuitIn file) (λ c. shape >>= on c) t e in
+    let (u, shaped, e2) = bind-taken shape (on c) t e1 in
     let (same, e3) = passed-test (not (sameBytes (circuitPart u) file)) otherCircuit 0 (tablesChecked c u) t e2 in
     let (is, fine) = tables-pass c u t e3 in
     subst (Passes file certificate) is
@@ -82,7 +84,9 @@ pub pass-same-circuit : (file certificate : List ℕ) (t : Tables) → checkOf f
 pass-same-circuit file certificate t e = pass-is file certificate t e .same
 
 -- and the certificate begins with its record
-pub pass-begins : (file certificate : List ℕ) (t : Tables) → AllBelow 256 certificate → checkOf file certificate ≡ taken t → (rest : List ℕ) × (certificate ≡ recordOf circuitKind file ++ rest)
+pub pass-begins :
+    (file certificate : List ℕ) (t : Tables) → AllBelow 256 certificate → checkOf file certificate ≡ taken t
+    → (rest : List ℕ) × (certificate ≡ recordOf circuitKind file ++ rest)
 pass-begins file certificate t bytes e =
     let p = pass-is file certificate t e in
     let (rest, first) = tables-begin acceptedKinds certificate t (p .tables) in

@@ -19,7 +19,7 @@ use Rattle.checker.specs.Answer.{Starts, ofReplies, ofAttacks, startsOf,
 use Rattle.checker.specs.Check.{tablesChecked}
 use Rattle.checker.specs.Numbers.{badShape, otherCircuit}
 use Rattle.checker.specs.contracts.FileNet.{FileNet}
-use Rattle.checker.specs.contracts.TablesAs.{repliesFrom, attacksFrom, RepliesAs, AttacksAs}
+use Rattle.checker.specs.contracts.TablesAs.{RepliesAs, AttacksAs}
 use Rattle.checker.proofs.laws.Counted.{net-latches-are, net-readings-are}
 use Rattle.checker.proofs.laws.JudgedBy.{tables-then}
 use Rattle.checker.proofs.laws.Stages.{misshapen-refused, other-refused, same-goes-on, answer-told}
@@ -68,7 +68,7 @@ module _ (file net certificate : List ℕ) (given : FileNet file net) where
         λ i. ofReplies (first i) (second i) (net-latches-are c net (given .is) i) (net-readings-are c net (given .is) i)
 
     pub replies-of-same :
-        sameBytes circuitBytes file ≡ true → (answer : Outcome Starts) → RepliesAs net regionBytes tableBytes (repliesFrom net region table) answer
+        sameBytes circuitBytes file ≡ true → (answer : Outcome Starts) → RepliesAs net regionBytes tableBytes region table answer
         → answer ≡ answerOf file certificate
     unfolding circuitPart
     replies-of-same f answer judged = judged c (given .is) circuitBytes (parts .kind) ∙ same _ (parts .tables) f _ starts-are
@@ -90,7 +90,7 @@ module _ (file net certificate : List ℕ) (given : FileNet file net) where
 
     pub attacks-of-same :
         sameBytes (part headLength circuitEnd certificate) file ≡ true → (answer : Outcome Starts)
-        → AttacksAs net (part table tableEnd certificate) (attacksFrom net table) answer → answer ≡ answerOf file certificate
+        → AttacksAs net (part table tableEnd certificate) table answer → answer ≡ answerOf file certificate
     unfolding circuitPart
     attacks-of-same f answer judged =
         judged c (given .is) (part headLength circuitEnd certificate) ∙ same _ (parts .tables) f _ attack-starts-are

@@ -11,19 +11,13 @@ use Rattle.records.specs.Tables.{replies, attacks}
 use Rattle.checker.specs.Answer.{Starts, ofReplies, ofAttacks}
 use Rattle.checker.specs.Check.{tablesChecked}
 
--- the starts, with the counts of a net
-abbrev pub repliesFrom : (net : List ℕ) (region table : ℕ) → Outcome Starts
-repliesFrom net region table = taken (ofReplies region table (netLatches net) (netReadings net))
-
-abbrev pub attacksFrom : (net : List ℕ) (table : ℕ) → Outcome Starts
-attacksFrom net table = taken (ofAttacks table (netLatches net) (netReadings net))
-
 -- of a region and a reply table, and of an attack table
-abbrev pub RepliesAs : (net region table : List ℕ) (passed answer : Outcome Starts) → Type 0
-RepliesAs net region table passed answer =
+abbrev pub RepliesAs : (net region table : List ℕ) (start behind : ℕ) (answer : Outcome Starts) → Type 0
+RepliesAs net region table start behind answer =
     (c : Circuit) → net ≡ netOf c → (circuit : List ℕ) (kind : ℕ)
-    → answer ≡ (tablesChecked c (replies circuit region kind table) >> passed)
+    → answer ≡ (tablesChecked c (replies circuit region kind table) >> taken (ofReplies start behind (netLatches net) (netReadings net)))
 
-abbrev pub AttacksAs : (net table : List ℕ) (passed answer : Outcome Starts) → Type 0
-AttacksAs net table passed answer =
-    (c : Circuit) → net ≡ netOf c → (circuit : List ℕ) → answer ≡ (tablesChecked c (attacks circuit table) >> passed)
+abbrev pub AttacksAs : (net table : List ℕ) (start : ℕ) (answer : Outcome Starts) → Type 0
+AttacksAs net table start answer =
+    (c : Circuit) → net ≡ netOf c → (circuit : List ℕ)
+    → answer ≡ (tablesChecked c (attacks circuit table) >> taken (ofAttacks start (netLatches net) (netReadings net)))
