@@ -6,3 +6,4 @@ pub mod Take
 pub mod Passed
 pub mod LeastFrom
 pub mod Filled
+pub mod Says

@@ -4,6 +4,7 @@ pub mod Means
 pub mod ReadPassed
 pub mod Stages
 pub mod Faults
+pub mod JudgedBy
 pub mod Judged
 pub mod Places
 pub mod Answered
@@ -15,5 +16,4 @@ pub mod WrongTables
 pub mod Breaks
 pub mod Lowest
 pub mod Exact
-pub mod Front
 pub mod Numbered

@@ -3,21 +3,10 @@ use Prim.Native.Nat.{ℕ, _^_, _<_, _≤_}
 use mathlib.Core.Bool.{true, false}
 use mathlib.Core.List.{List}
 use mathlib.Core.Path.{_≡_}
-use Rattle.circuit.specs.Circuit.{Circuit, latchCount, uncontrollableCount, controllableCount}
-use Rattle.records.specs.AttackTable.{storedRank, storedAttack}
-use Rattle.records.specs.ReplyBytes.{storedReply}
+use Rattle.circuit.specs.Circuit.{Circuit, uncontrollableCount, controllableCount}
 use Rattle.step.specs.Step.{step}
+use Rattle.checker.specs.StoredFor.{replyAt, rankAt, attackAt}
 use Rattle.checker.specs.StoredRegion.{Holds}
-
--- what is stored for a circuit
-abbrev pub replyAt : Circuit → (table : List ℕ) → (state reading : ℕ) → ℕ
-replyAt c table s r = storedReply table (latchCount c) (uncontrollableCount c) s r
-
-abbrev pub rankAt : Circuit → (table : List ℕ) → (state : ℕ) → ℕ
-rankAt c table s = storedRank table (latchCount c) s
-
-abbrev pub attackAt : Circuit → (table : List ℕ) → (state : ℕ) → ℕ
-attackAt c table s = storedAttack table (latchCount c) s
 
 -- at a state of the stored region the reply isn't below 2^C, gives error 1 or leads out of the stored region
 pub data ReplyBreaks (c : Circuit) (region table : List ℕ) (s r : ℕ) : Type 0 where

@@ -7,8 +7,7 @@ use mathlib.Core.Path.{_≡_}
 use Rattle.circuit.specs.Circuit.{Circuit}
 use Rattle.circuit.specs.Outcome.{taken, refused}
 use Rattle.file.specs.CircuitIn.{circuitIn}
-use Rattle.records.specs.Tables.{Tables, replies, attacks, tablesOf, circuitPart}
-use Rattle.checker.specs.Check.{acceptedKinds}
+use Rattle.records.specs.Tables.{acceptedKinds, Tables, replies, attacks, tablesOf, circuitPart}
 use Rattle.checker.specs.Lowest.{LowestReply, LowestAttack}
 use Rattle.checker.specs.Numbers.{badShape, otherCircuit, badTable, badReset, brokenStep}
 use Rattle.checker.specs.WrongReset.{ResetNotHeld, ResetOfRankZero}

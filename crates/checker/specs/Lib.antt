@@ -1,13 +1,12 @@
 pub mod Numbers
+pub mod StoredFor
 pub mod Rules
 pub mod Check
 pub mod Answer
-pub mod CircuitChecked
-pub mod Sized
-pub mod Faults
 pub mod StoredRegion
 pub mod WrongTables
 pub mod WrongReset
 pub mod Breaks
 pub mod Lowest
 pub mod CheckRow
+pub mod contracts

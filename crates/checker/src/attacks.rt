@@ -12,26 +12,20 @@ use records::stored::stored_rank;
 use rules::some_keeps;
 use step::Control;
 use step::Reading;
-ghost use Prim.Native.Nat.{ℕ, _+_, _-_, _^_, min};
 ghost use mathlib.Core.Path.{_≡_};
-ghost use Rattle.below.specs.Least.{least, any};
-ghost use Rattle.blocks.specs.Lane.{width, litsIn};
-ghost use Rattle.circuit.specs.Circuit.{Circuit};
 ghost use Rattle.game.specs.Keeps.{answered};
-ghost use Rattle.game.specs.NetGame.{netGame, keepsBy};
-ghost use Rattle.game.specs.Rank.{notRanked};
-ghost use Rattle.net.specs.Net.{netLatches, netReadings, netControls};
-ghost use Rattle.net.specs.NetOf.{netOf};
-ghost use Rattle.records.specs.AttackTable.{storedRank};
-ghost use Rattle.checker.specs.Answer.{ofAttacks, checkedOutcome};
-ghost use Rattle.checker.specs.CircuitChecked.{attacksJudged};
-ghost use Rattle.checker.specs.Faults.{attackFault};
-ghost use Rattle.checker.specs.Sized.{Sized};
+ghost use Rattle.game.specs.NetGame.{netGame};
+ghost use Rattle.net.specs.Net.{netLatches};
+ghost use Rattle.checker.specs.Answer.{checkedOutcome};
+ghost use Rattle.checker.specs.contracts.Faults.{attackFault, firstAttackFault};
+ghost use Rattle.checker.specs.contracts.KeepsOut.{unranked, someLane};
+ghost use Rattle.checker.specs.contracts.Sized.{Sized};
+ghost use Rattle.checker.specs.contracts.TablesAs.{AttacksAs};
 
 // 13, 14 and 15 of an attack table; where it starts is answered where none applies.
 pub(crate) fn check_attacks<'a>(net: &'a [u16], table: &'a [u8], start: usize) -> Checked
     requires { ⌜ Sized (now net) ⌝ }
-    ensures { λ r. ⌜ ((c : Circuit) → now (net .entry) ≡ netOf c → checkedOutcome r ≡ attacksJudged c (now (table .entry)) (ofAttacks start (netLatches (now (net .entry))) (netReadings (now (net .entry))))) ⌝ }
+    ensures { λ r. ⌜ AttacksAs (now (net .entry)) (now (table .entry)) start (checkedOutcome r) ⌝ }
 {
     let latches = latches_of(net);
     let states = power(latches);
@@ -64,7 +58,7 @@ pub(crate) fn check_attacks<'a>(net: &'a [u16], table: &'a [u8], start: usize) -
 // The lowest s whose attack breaks the step rule, or 2^L where none does.
 fn broken_attack<'a>(net: &'a [u16], table: &'a [u8]) -> usize
     requires { ⌜ Sized (now net) ⌝ }
-    ensures { λ r. ⌜ r ≡ least (attackFault (now (net .entry)) (now (table .entry))) (2 ^ netLatches (now (net .entry))) ⌝ }
+    ensures { λ r. ⌜ r ≡ firstAttackFault (now (net .entry)) (now (table .entry)) ⌝ }
 {
     let n = power(latches_of(net));
     let mut s = 0;
@@ -98,7 +92,7 @@ fn attack_broken<'a>(net: &'a [u16], table: &'a [u8], state: u16) -> bool
 // one part of a block, or in whole blocks.
 fn is_answered<'a>(net: &'a [u16], table: &'a [u8], bound: u16, state: u16, reading: u8) -> bool
     requires { ⌜ Sized (now net) ⌝ }
-    ensures { λ r. ⌜ r ≡ answered (netGame (now (net .entry))) (notRanked (storedRank (now (table .entry)) (netLatches (now (net .entry)))) bound) state reading ⌝ }
+    ensures { λ r. ⌜ r ≡ answered (netGame (now (net .entry))) (unranked (now (table .entry)) (netLatches (now (net .entry))) bound) state reading ⌝ }
 {
     let latches = latches_of(net);
     let controls = controls_of(net);
@@ -134,7 +128,7 @@ fn block_keeps<'a>(
     from: usize,
     end: usize,
 ) -> bool
-    ensures { λ r. ⌜ r ≡ any (λ i. keepsBy (notRanked (storedRank (now (table .entry)) latches) bound) (now (net .entry)) (litsIn (now (words .entry)) (from + i))) (min end width - from) ⌝ }
+    ensures { λ r. ⌜ r ≡ someLane (unranked (now (table .entry)) latches bound) (now (net .entry)) (now (words .entry)) from end ⌝ }
 {
     some_keeps(net, words, table, latches, bound, from, end)
 }

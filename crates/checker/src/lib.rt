@@ -13,15 +13,12 @@ use records::Shape;
 use records::tables::shape_of;
 use replies::check_replies;
 ghost use Prim.Native.Nat.{_^_, _<_};
-ghost use mathlib.Core.Bool.{false};
 ghost use mathlib.Core.Path.{_≡_};
-ghost use Rattle.circuit.specs.Circuit.{Circuit as Spec, tooMany};
-ghost use Rattle.circuit.specs.Limits.{base};
+ghost use Rattle.circuit.specs.Outcome.{taken};
 ghost use Rattle.circuit.specs.Stored.{meant};
-ghost use Rattle.net.specs.NetOf.{netOf};
+ghost use Rattle.file.specs.CircuitIn.{circuitIn};
 ghost use Rattle.checker.specs.Answer.{checkedOutcome, answerOf};
-ghost use Rattle.checker.specs.CircuitChecked.{circuitChecked};
-ghost use Rattle.checker.specs.Sized.{Sized};
+ghost use Rattle.checker.specs.contracts.FileNet.{FileNet};
 
 // What a pass answers: where the tables start in the certificate, and L and U, so that they can be read.
 pub enum Checked {
@@ -62,10 +59,10 @@ pub fn check<'a>(file: &'a [u8], certificate: &'a [u8]) -> Checked
     }
 }
 
-// 11 to 15 of a certificate for a circuit that was read from `file`, over its net.
+// 11 to 15 of a certificate for the circuit that `file` means, over its net.
 fn check_circuit<'a>(c: Circuit, file: &'a [u8], certificate: &'a [u8]) -> Checked
-    requires { ⌜ tooMany base (meant c) ≡ false ⌝ }
-    ensures { λ r. ⌜ checkedOutcome r ≡ circuitChecked (meant c) (now (file .entry)) (now (certificate .entry)) ⌝ }
+    requires { ⌜ circuitIn (now file) ≡ taken (meant c) ⌝ }
+    ensures { λ r. ⌜ checkedOutcome r ≡ answerOf (now (file .entry)) (now (certificate .entry)) ⌝ }
 {
     let made = net::make(c);
     let numbers = made.numbers;
@@ -74,8 +71,8 @@ fn check_circuit<'a>(c: Circuit, file: &'a [u8], certificate: &'a [u8]) -> Check
 
 // 11 and 12; then the tables are judged.
 fn check_net<'a>(net: &'a [u16], file: &'a [u8], certificate: &'a [u8]) -> Checked
-    requires { ⌜ Sized (now net) ⌝ }
-    ensures { λ r. ⌜ ((c : Spec) → now (net .entry) ≡ netOf c → checkedOutcome r ≡ circuitChecked c (now (file .entry)) (now (certificate .entry))) ⌝ }
+    requires { ⌜ FileNet (now file) (now net) ⌝ }
+    ensures { λ r. ⌜ checkedOutcome r ≡ answerOf (now (file .entry)) (now (certificate .entry)) ⌝ }
 {
     match shape_of(certificate) {
         Shape::Replies {

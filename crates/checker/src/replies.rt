@@ -13,23 +13,18 @@ use records::stored::stored_reply;
 use rules::lane_keeps_region;
 use step::Control;
 use step::Reading;
-ghost use Prim.Native.Nat.{ℕ, _+_, _*_, _/_, _%_, _^_, _<_, _≤_};
-ghost use mathlib.Core.Bool.{true, not, _||_};
+ghost use Prim.Native.Nat.{_+_, _^_, _<_, _≤_};
 ghost use mathlib.Core.Path.{_≡_};
-ghost use lib.Dec.{eqb};
 ghost use lib.ListN.{length};
-ghost use Rattle.below.specs.Least.{least};
-ghost use Rattle.blocks.specs.Lane.{width};
-ghost use Rattle.circuit.specs.Circuit.{Circuit};
 ghost use Rattle.circuit.specs.Limits.{base};
 ghost use Rattle.net.specs.Net.{netLatches, netReadings};
-ghost use Rattle.net.specs.NetOf.{netOf};
-ghost use Rattle.records.specs.RegionBits.{regionLength, holdsState, unusedBitSet};
-ghost use Rattle.records.specs.ReplyBytes.{replyLength};
-ghost use Rattle.checker.specs.Answer.{ofReplies, checkedOutcome};
-ghost use Rattle.checker.specs.CircuitChecked.{repliesJudged};
-ghost use Rattle.checker.specs.Faults.{replyFault, replyMove};
-ghost use Rattle.checker.specs.Sized.{Sized, Holding};
+ghost use Rattle.records.specs.RegionBits.{unusedBitSet};
+ghost use Rattle.checker.specs.Answer.{checkedOutcome};
+ghost use Rattle.checker.specs.Rules.{badlySized};
+ghost use Rattle.checker.specs.contracts.Faults.{replyFault, firstReplyFault, replyMove};
+ghost use Rattle.checker.specs.contracts.Looked.{AtHand, Looked};
+ghost use Rattle.checker.specs.contracts.Sized.{Sized, Holding};
+ghost use Rattle.checker.specs.contracts.TablesAs.{RepliesAs};
 
 // 13, 14 and 15 of a region and a reply table; where they start is answered where none applies.
 pub(crate) fn check_replies<'a>(
@@ -40,7 +35,7 @@ pub(crate) fn check_replies<'a>(
     replies: usize,
 ) -> Checked
     requires { ⌜ Sized (now net) ⌝ }
-    ensures { λ r. ⌜ ((c : Circuit) → now (net .entry) ≡ netOf c → checkedOutcome r ≡ repliesJudged c (now (region .entry)) (now (table .entry)) (ofReplies start replies (netLatches (now (net .entry))) (netReadings (now (net .entry))))) ⌝ }
+    ensures { λ r. ⌜ RepliesAs (now (net .entry)) (now (region .entry)) (now (table .entry)) start replies (checkedOutcome r) ⌝ }
 {
     let latches = latches_of(net);
     let readings = readings_of(net);
@@ -75,7 +70,7 @@ pub(crate) fn check_replies<'a>(
 fn badly_sized<'a>(region: &'a [u8], table: &'a [u8], latches: usize, readings: usize) -> bool
     requires { ⌜ latches ≤ base .latches ⌝ }
     requires { ⌜ readings ≤ base .uncontrollable ⌝ }
-    ensures { λ r. ⌜ r ≡ (not (eqb (length (now (region .entry))) (regionLength latches)) || not (eqb (length (now (table .entry))) (replyLength latches readings)) || unusedBitSet (now (region .entry)) latches) ⌝ }
+    ensures { λ r. ⌜ r ≡ badlySized (now (region .entry)) (now (table .entry)) latches readings ⌝ }
 {
     if region.len() != (power(latches) + 7) / 8 {
         return true;
@@ -107,7 +102,7 @@ fn unused_bit_set(region: &[u8], latches: usize) -> bool
 // another one: with few controls it has the moves of several readings.
 fn broken_reply<'a>(net: &'a [u16], region: &'a [u8], table: &'a [u8]) -> usize
     requires { ⌜ Sized (now net) ⌝ }
-    ensures { λ r. ⌜ r ≡ least (replyFault (now (net .entry)) (now (region .entry)) (now (table .entry))) (2 ^ (netLatches (now (net .entry)) + netReadings (now (net .entry)))) ⌝ }
+    ensures { λ r. ⌜ r ≡ firstReplyFault (now (net .entry)) (now (region .entry)) (now (table .entry)) ⌝ }
 {
     let n = power(latches_of(net) + readings_of(net));
     let mut words = [0; LITERALS];
@@ -136,7 +131,7 @@ fn look_at<'a>(
     requires { ⌜ Sized (now net) ⌝ }
     requires { ⌜ place < 2 ^ (netLatches (now net) + netReadings (now net)) ⌝ }
     requires { ⌜ Holding (now net) last (now words) ⌝ }
-    ensures { λ r. ⌜ (Holding (now (net .entry)) r (now (words .exit)) × (holdsState (now (region .entry)) (netLatches (now (net .entry))) (place / 2 ^ netReadings (now (net .entry))) ≡ true → r ≡ replyMove (now (net .entry)) (now (table .entry)) place / width)) ⌝ }
+    ensures { λ r. ⌜ Looked (now (net .entry)) (now (region .entry)) (now (table .entry)) place r (now (words .exit)) ⌝ }
 {
     if !holds_state(region, latches_of(net), place / power(readings_of(net))) {
         return last;
@@ -180,7 +175,7 @@ fn reply_broken<'a>(
 ) -> bool
     requires { ⌜ Sized (now net) ⌝ }
     requires { ⌜ place < 2 ^ (netLatches (now net) + netReadings (now net)) ⌝ }
-    requires { ⌜ (holdsState (now region) (netLatches (now net)) (place / 2 ^ netReadings (now net)) ≡ true → Holding (now net) (replyMove (now net) (now table) place / width) (now words)) ⌝ }
+    requires { ⌜ AtHand (now net) (now region) (now table) place (now words) ⌝ }
     ensures { λ r. ⌜ r ≡ replyFault (now (net .entry)) (now (region .entry)) (now (table .entry)) place ⌝ }
 {
     let latches = latches_of(net);

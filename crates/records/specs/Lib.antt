@@ -7,3 +7,4 @@ pub mod RecordAt
 pub mod CircuitRecord
 pub mod Shape
 pub mod Passed
+pub mod contracts

@@ -7,7 +7,7 @@ use Rattle.circuit.specs.Stored.{meant}
 use Rattle.net.specs.NetOf.{netOf}
 use Rattle.net.proofs.laws.InOrder.{Room}
 use Rattle.net.proofs.laws.Lent.{meant-room, lent-net, lent-in-order}
-use Rattle.checker.proofs.laws.Counted.{few-sized}
+use Rattle.checker.proofs.laws.Counted.{read-net}
 use borrow.Author.Needs.{needs}
 use Rattle.checker.proofs.check_circuit.Statement.{statement}
 use Rattle.checker.proofs.check_circuit.Tie as tie
@@ -37,14 +37,11 @@ check-net-requires : tie.Need-check-net-requires
 check-net-requires c κs =
     let m = c .before .before in
     let v = m .before .before .before .args .c in
-    few-sized (meant v) (take (m .make .result .length) (m .make .result .numbers)) (lent-is m) (m .before .before .before .pre)
-    (lent-in-order (meant v) (room m) (m .make .result) (m .make .ensures))
+    read-net (meant v) (take (m .make .result .length) (m .make .result .numbers)) (lent-is m) (m .before .before .before .args .file .now)
+    (m .before .before .before .pre) (lent-in-order (meant v) (room m) (m .make .result) (m .make .ensures))
 
 returns : tie.Need-returns
-returns c =
-    let m = c .before .before .before in
-    let v = m .before .before .before .args .c in
-    c .check-net .ensures (meant v) (lent-is m)
+returns c = c .check-net .ensures
 
 pub check-circuit-spec : {M : Type 1} → statement M
 check-circuit-spec =

@@ -1,13 +1,9 @@
 -- `checker::check_net` meets its contract: the shape names the tables as parts of the certificate, and they are judged. Assumes nothing.
-use mathlib.Core.Path.{_≡_, refl, sym, _∙_}
+use mathlib.Core.Path.{sym, _∙_}
 use borrow.Author.Tests.{not-true, not-false}
-use Rattle.circuit.specs.Circuit.{Circuit}
-use Rattle.net.specs.Net.{netLatches, netReadings, netControls}
-use Rattle.net.specs.NetOf.{netOf}
+use Rattle.records.specs.Tables.{acceptedKinds}
 use Rattle.records.proofs.laws.Parts.{ReplyParts, AttackParts, reply-parts, attack-parts, shape-other}
 use Rattle.checker.specs.Answer.{checkedOutcome}
-use Rattle.checker.specs.Check.{acceptedKinds}
-use Rattle.checker.proofs.laws.Counted.{Counted, counted-of}
 use Rattle.checker.proofs.laws.Shaped.{misshapen, replies-of-other, replies-of-same, attacks-of-other, attacks-of-same}
 use borrow.Author.Needs.{needs}
 use Rattle.checker.proofs.check_net.Statement.{statement}
@@ -17,22 +13,11 @@ use Rattle.checker.proofs.check_net.Tie as tie
 reply-lies : (w : tie.After-circuit-end) → ReplyParts acceptedKinds (w .before .before .before .before .before .before .args .certificate .now)
     (w .circuit-end .given .0 .0) (w .circuit-end .given .0 .1 .0) (w .circuit-end .given .0 .1 .1 .0) (w .circuit-end .given .0 .1 .1 .1 .0)
     (w .circuit-end .given .0 .1 .1 .1 .1 .0)
-reply-lies w =
-    reply-parts acceptedKinds (w .before .before .before .before .before .before .args .certificate .now) (w .circuit-end .given .0 .0)
-    (w .circuit-end .given .0 .1 .0) (w .circuit-end .given .0 .1 .1 .0) (w .circuit-end .given .0 .1 .1 .1 .0)
-    (w .circuit-end .given .0 .1 .1 .1 .1 .0) (sym (w .circuit-end .given .1) ∙ w .before .before .shape-of .ensures)
+reply-lies w = reply-parts acceptedKinds _ _ _ _ _ _ (sym (w .circuit-end .given .1) ∙ w .before .before .shape-of .ensures)
 
 attack-lies : (w : tie.After-circuit-end2) → AttackParts acceptedKinds (w .before .before .before .before .before .before .args .certificate .now)
     (w .circuit-end2 .given .0 .0) (w .circuit-end2 .given .0 .1 .0) (w .circuit-end2 .given .0 .1 .1 .0)
-attack-lies w =
-    attack-parts acceptedKinds (w .before .before .before .before .before .before .args .certificate .now) (w .circuit-end2 .given .0 .0)
-    (w .circuit-end2 .given .0 .1 .0) (w .circuit-end2 .given .0 .1 .1 .0) (sym (w .circuit-end2 .given .1) ∙ w .before .before .shape-of .ensures)
-
--- the counts, for any circuit whose net this is
-counts : (w : tie.After-shape-of) (d : Circuit) → w .before .before .before .before .args .net .now ≡ netOf d
-    → Counted d (netLatches (w .before .before .before .before .args .net .now)) (netReadings (w .before .before .before .before .args .net .now))
-    (netControls (w .before .before .before .before .args .net .now))
-counts w d e = counted-of d (w .before .before .before .before .args .net .now) e (w .before .before .before .before .pre) _ _ refl refl
+attack-lies w = attack-parts acceptedKinds _ _ _ _ (sym (w .circuit-end2 .given .1) ∙ w .before .before .shape-of .ensures)
 
 shape-of-requires : tie.Need-shape-of-requires
 shape-of-requires c κs = search needs
@@ -55,13 +40,10 @@ same-bytes-requires c κs = search needs
 returns : tie.Need-returns
 unfolding checkedOutcome
 returns c =
-    let a = c .before .before .before .before .before .before .before .before .before .before .args in
     let w = c .before .before .before .before in
-    λ d e. replies-of-other d (netLatches (a .net .now)) (netReadings (a .net .now)) (netControls (a .net .now))
-    (counts (w .before .before) d e) (a .file .now) (a .certificate .now) (w .circuit-end .given .0 .0) (w .circuit-end .given .0 .1 .0) (w .circuit-end
-    .given .0 .1 .1 .0)
-    (w .circuit-end .given .0 .1 .1 .1 .0) (w .circuit-end .given .0 .1 .1 .1 .1 .0) (reply-lies w) (sym (c .before .same-bytes .ensures) ∙ not-true _ (c
-    .if1 .taken))
+    let s = w .before .before .before .before .before .before in
+    replies-of-other (s .args .file .now) (s .args .net .now) (s .args .certificate .now) (s .pre) _ _ _ _ _ (reply-lies w)
+    (sym (c .before .same-bytes .ensures) ∙ not-true _ (c .if1 .taken))
 
 sub-check-replies : tie.Need-sub-check-replies
 sub-check-replies c = reply-lies (c .before .before .before .before) .regionPart .ordered
@@ -82,7 +64,7 @@ part-check-replies-end-2 : tie.Need-part-check-replies-end-2
 part-check-replies-end-2 c = reply-lies (c .before .before .before .before .before) .tablePart .inside
 
 check-replies-requires : tie.Need-check-replies-requires
-check-replies-requires c κs = search needs
+check-replies-requires c κs = c .before .before .before .before .before .before .before .before .before .before .before .before .pre .sized
 
 enum-known-circuit-end-2 : tie.Need-enum-known-circuit-end-2
 enum-known-circuit-end-2 c = search needs
@@ -102,12 +84,10 @@ same-bytes-requires-2 c κs = search needs
 returns-2 : tie.Need-returns-2
 unfolding checkedOutcome
 returns-2 c =
-    let a = c .before .before .before .before .before .before .before .before .before .before .args in
     let w = c .before .before .before .before in
-    λ d e. attacks-of-other d (netLatches (a .net .now)) (netReadings (a .net .now)) (netControls (a .net .now))
-    (counts (w .before .before) d e) (a .file .now) (a .certificate .now) (w .circuit-end2 .given .0 .0) (w .circuit-end2 .given .0 .1 .0) (w .circuit-end2
-    .given .0 .1 .1 .0)
-    (attack-lies w) (sym (c .before .same-bytes2 .ensures) ∙ not-true _ (c .if2 .taken))
+    let s = w .before .before .before .before .before .before in
+    attacks-of-other (s .args .file .now) (s .args .net .now) (s .args .certificate .now) (s .pre) _ _ _ (attack-lies w)
+    (sym (c .before .same-bytes2 .ensures) ∙ not-true _ (c .if2 .taken))
 
 sub-check-attacks : tie.Need-sub-check-attacks
 sub-check-attacks c = attack-lies (c .before .before .before .before) .tablePart .ordered
@@ -119,36 +99,31 @@ part-check-attacks-end : tie.Need-part-check-attacks-end
 part-check-attacks-end c = attack-lies (c .before .before .before .before) .tablePart .inside
 
 check-attacks-requires : tie.Need-check-attacks-requires
-check-attacks-requires c κs = search needs
+check-attacks-requires c κs = c .before .before .before .before .before .before .before .before .before .before .before .pre .sized
 
 enum-told : tie.Need-enum-told
 enum-told c = search needs
 
 returns-3 : tie.Need-returns-3
 returns-3 c =
-    let a = c .before .before .before .before .before .before .before .before .before .before .before .before .before .args in
     let w = c .before .before .before .before .before .before .before in
-    λ d e. c .check-replies .ensures d e ∙ replies-of-same d (netLatches (a .net .now)) (netReadings (a .net .now)) (netControls (a .net .now))
-    (counts (w .before .before) d e) (a .file .now) (a .certificate .now) (w .circuit-end .given .0 .0) (w .circuit-end .given .0 .1 .0) (w .circuit-end
-    .given .0 .1 .1 .0)
-    (w .circuit-end .given .0 .1 .1 .1 .0) (w .circuit-end .given .0 .1 .1 .1 .1 .0) (reply-lies w)
-    (sym (c .before .before .before .before .same-bytes .ensures) ∙ not-false _ (c .before .before .before .if1 .left))
+    let s = w .before .before .before .before .before .before in
+    replies-of-same (s .args .file .now) (s .args .net .now) (s .args .certificate .now) (s .pre) _ _ _ _ _ (reply-lies w)
+    (sym (c .before .before .before .before .same-bytes .ensures) ∙ not-false _ (c .before .before .before .if1 .left)) _ (c .check-replies .ensures)
 
 returns-4 : tie.Need-returns-4
 returns-4 c =
-    let a = c .before .before .before .before .before .before .before .before .before .before .before .before .args in
     let w = c .before .before .before .before .before .before in
-    λ d e. c .check-attacks .ensures d e ∙ attacks-of-same d (netLatches (a .net .now)) (netReadings (a .net .now)) (netControls (a .net .now))
-    (counts (w .before .before) d e) (a .file .now) (a .certificate .now) (w .circuit-end2 .given .0 .0) (w .circuit-end2 .given .0 .1 .0) (w .circuit-end2
-    .given .0 .1 .1 .0)
-    (attack-lies w) (sym (c .before .before .before .same-bytes2 .ensures) ∙ not-false _ (c .before .before .if2 .left))
+    let s = w .before .before .before .before .before .before in
+    attacks-of-same (s .args .file .now) (s .args .net .now) (s .args .certificate .now) (s .pre) _ _ _ (attack-lies w)
+    (sym (c .before .before .before .same-bytes2 .ensures) ∙ not-false _ (c .before .before .if2 .left)) _ (c .check-attacks .ensures)
 
 returns-5 : tie.Need-returns-5
 unfolding checkedOutcome
 returns-5 c =
-    let a = c .before .before .before .before .before .before .args in
-    λ d e. misshapen d (netLatches (a .net .now)) (netReadings (a .net .now)) (netControls (a .net .now)) (counts (c .before .before) d e) (a .file .now)
-    (a .certificate .now) (shape-other acceptedKinds (a .certificate .now) (sym (c .enum-told .given .1) ∙ c .before .before .shape-of .ensures))
+    let s = c .before .before .before .before .before .before in
+    misshapen (s .args .file .now) (s .args .net .now) (s .args .certificate .now) (s .pre)
+    (shape-other acceptedKinds (s .args .certificate .now) (sym (c .enum-told .given .1) ∙ c .before .before .shape-of .ensures))
 
 pub check-net-spec : {M : Type 1} → statement M
 check-net-spec =

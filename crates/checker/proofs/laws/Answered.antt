@@ -18,7 +18,8 @@ use Rattle.game.proofs.laws.NetGame.{block-keeps}
 use Rattle.net.specs.Move.{moveOf}
 use Rattle.net.specs.Net.{netLatches, netReadings, netControls}
 use Rattle.net.proofs.laws.Move.{join-below, lowest-below}
-use Rattle.checker.specs.Sized.{Sized}
+use Rattle.checker.specs.contracts.Sized.{Sized}
+use Rattle.checker.proofs.laws.Counted.{limited-move}
 
 -- the moves of the controls stand in turn
 turn : (net : List ℕ) (s r k : ℕ) → k < 2 ^ netControls net → netMove net s r 0 + k ≡ netMove net s r k
@@ -86,17 +87,7 @@ module _ (net : List ℕ) (sized : Sized net) (set : ℕ → Bool) (s r first en
 -- the move of control 0, as the code makes it
 pub first-is : (net : List ℕ) → Sized net → (L U C s r move : ℕ) → L ≡ netLatches net → U ≡ netReadings net → C ≡ netControls net
     → move ≡ moveOf (min L (base .latches)) (min U (base .inputs)) (min C (base .inputs)) s r 0 → move ≡ netMove net s r 0
-unfolding netMove
-first-is net sized L U C s r move latches readings controls e = e ∙ λ x. moveOf (l x) (u x) (k x) s r 0
-  where
-    l : min L (base .latches) ≡ netLatches net
-    l = omega (arith, sized .order .states)
-
-    u : min U (base .inputs) ≡ netReadings net
-    u = omega (arith, sized .fewReadings)
-
-    k : min C (base .inputs) ≡ netControls net
-    k = omega (arith, sized .fewControls)
+first-is net sized L U C s r move latches readings controls e = e ∙ limited-move net sized L U C latches readings controls s r 0
 
 -- a move has at most as many bits as latches and inputs
 pub move-few : (L U C s r k : ℕ) → L ≤ base .latches → U ≤ base .inputs → C ≤ base .inputs → moveOf L U C s r k < 2 ^ (base .latches + base .inputs + base

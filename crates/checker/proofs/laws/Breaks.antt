@@ -7,6 +7,7 @@ use mathlib.Core.Logic.{_↔_}
 use mathlib.Core.Path.{_≡_, refl, sym, ap, _∙_}
 use borrow.Author.Tests.{ltb-true, ltb-false, lt-ltb, le-ltb}
 use lib.Dec.{ltb}
+use Rattle.below.proofs.laws.Says.{test-fails, fails-test}
 use Rattle.bits.proofs.laws.Bytes.{both-true}
 use Rattle.circuit.specs.Circuit.{Circuit, latchCount, uncontrollableCount, controllableCount}
 use Rattle.game.specs.Attack.{attackBroken}
@@ -18,13 +19,11 @@ use Rattle.game.specs.Reply.{replyBroken}
 use Rattle.game.proofs.laws.CircuitGame.{circuit-proper}
 use Rattle.game.proofs.laws.Keeps.{answered-by, answers}
 use Rattle.game.proofs.laws.Rank.{ranked-is, is-ranked}
-use Rattle.records.specs.AttackTable.{storedRank, storedAttack}
-use Rattle.records.specs.RegionBits.{holdsState}
-use Rattle.records.specs.ReplyBytes.{storedReply}
 use Rattle.step.specs.Step.{step}
-use Rattle.checker.specs.Breaks.{replyAt, attackAt, ReplyBreaks, noControl, errs, leadsOut, RankFalls, AttackBreaks, noReading, escapes}
+use Rattle.checker.specs.Breaks.{ReplyBreaks, noControl, errs, leadsOut, RankFalls, AttackBreaks, noReading, escapes}
+use Rattle.checker.specs.StoredFor.{heldAt, replyAt, rankAt, attackAt}
 use Rattle.checker.specs.StoredRegion.{Holds}
-use Rattle.checker.proofs.laws.WrongTables.{test-fails, fails-test, holds-state}
+use Rattle.checker.proofs.laws.WrongTables.{holds-state}
 
 -- a state of a set whose reply is no control, errs, or leads out
 data Fails (below error held : Bool) : Type 0 where
@@ -51,7 +50,7 @@ module _ (c : Circuit) (region table : List ℕ) (s r : ℕ) (state : s < 2 ^ la
   L = latchCount c
 
   abbrev set : ℕ → Bool
-  set = holdsState region L
+  set = heldAt c region
 
   abbrev k : ℕ
   k = replyAt c table s r
@@ -60,19 +59,25 @@ module _ (c : Circuit) (region table : List ℕ) (s r : ℕ) (state : s < 2 ^ la
   unfolding circuitGame
   leads = circuit-proper c .leads s r k
 
-  pub reply-breaks : (replyBroken (circuitGame c) (holdsState region (latchCount c)) (storedReply table (latchCount c) (uncontrollableCount c)) s r ≡ true) ↔ ReplyBreaks c region table s r
+  abbrev Faulty : Type 0
+  Faulty = Fails (ltb k (2 ^ controllableCount c)) (step c s r k .error) (set (step c s r k .next))
+
+  abbrev good : Bool
+  good = ltb k (2 ^ controllableCount c) && (not (step c s r k .error) && set (step c s r k .next))
+
+  pub reply-breaks : (replyBroken (circuitGame c) (heldAt c region) (replyAt c table) s r ≡ true) ↔ ReplyBreaks c region table s r
   unfolding replyBroken circuitGame keeps
   reply-breaks = (λ e. let (held, fault) = both-true (set s) _ e in to (holds-state region L s state .0 held) (fails _ _ _ fault), back)
     where
-      to : Holds region s → Fails (ltb k (2 ^ controllableCount c)) (step c s r k .error) (set (step c s r k .next)) → ReplyBreaks c region table s r
+      to : Holds region s → Faulty → ReplyBreaks c region table s r
       to held (above e) = noControl held (ltb-false _ _ e)
       to held (one e) = errs held e
       to held (out e) = leadsOut held (test-fails _ (holds-state region L (step c s r k .next) leads) e)
 
-      with-held : Holds region s → Fails (ltb k (2 ^ controllableCount c)) (step c s r k .error) (set (step c s r k .next)) → (set s && not (ltb k (2 ^ controllableCount c) && (not (step c s r k .error) && set (step c s r k .next)))) ≡ true
-      with-held held f = ap (λ (b : Bool). b && not (ltb k (2 ^ controllableCount c) && (not (step c s r k .error) && set (step c s r k .next)))) (holds-state region L s state .1 held) ∙ of-fails _ _ _ f
+      with-held : Holds region s → Faulty → (set s && not good) ≡ true
+      with-held held f = ap (λ (b : Bool). b && not good) (holds-state region L s state .1 held) ∙ of-fails _ _ _ f
 
-      back : ReplyBreaks c region table s r → (set s && not (ltb k (2 ^ controllableCount c) && (not (step c s r k .error) && set (step c s r k .next)))) ≡ true
+      back : ReplyBreaks c region table s r → (set s && not good) ≡ true
       back (noControl held h) = with-held held (above (le-ltb _ _ h))
       back (errs held e) = with-held held (one e)
       back (leadsOut held o) = with-held held (out (fails-test _ (holds-state region L (step c s r k .next) leads) o))
@@ -95,7 +100,7 @@ of-answer true false (some e) = absurd (true≢false (sym e))
 
 module _ (c : Circuit) (table : List ℕ) (s : ℕ) where
   abbrev ranks : ℕ → ℕ
-  ranks = storedRank table (latchCount c)
+  ranks = rankAt c table
 
   abbrev r : ℕ
   r = attackAt c table s
@@ -114,20 +119,26 @@ module _ (c : Circuit) (table : List ℕ) (s : ℕ) where
       by true e = e
       by false e = let (low, high) = ranked-is ranks (ranks s - 1) t e in absurd (other (low, omega (arith, h, high)))
 
-  pub attack-breaks : (attackBroken (circuitGame c) (storedRank table (latchCount c)) (storedAttack table (latchCount c)) s ≡ true) ↔ AttackBreaks c table s
+  abbrev Lost : Type 0
+  Lost = Answered (ltb r (2 ^ uncontrollableCount c)) (answered (circuitGame c) out-of s r)
+
+  abbrev sound : Bool
+  sound = ltb r (2 ^ uncontrollableCount c) && not (answered (circuitGame c) out-of s r)
+
+  pub attack-breaks : (attackBroken (circuitGame c) (rankAt c table) (attackAt c table) s ≡ true) ↔ AttackBreaks c table s
   unfolding attackBroken defeats circuitGame Keeps
   attack-breaks = (λ e. let (ranked, fault) = both-true (ltb 0 (ranks s)) _ e in to (ltb-true _ _ ranked) (answer-of _ _ fault), back)
     where
       g : Game
       g = circuitGame c
 
-      to : 0 < ranks s → Answered (ltb r (2 ^ uncontrollableCount c)) (answered g out-of s r) → AttackBreaks c table s
+      to : 0 < ranks s → Lost → AttackBreaks c table s
       to h (over e) = noReading h (ltb-false _ _ e)
       to h (some e) = let (j, below, keep) = answered-by g out-of s r e in escapes h j below (keep .0) (not-falls h _ (keep .1))
 
-      with-rank : 0 < ranks s → Answered (ltb r (2 ^ uncontrollableCount c)) (answered g out-of s r) → (ltb 0 (ranks s) && not (ltb r (2 ^ uncontrollableCount c) && not (answered g out-of s r))) ≡ true
-      with-rank h a = ap (λ (b : Bool). b && not (ltb r (2 ^ uncontrollableCount c) && not (answered g out-of s r))) (lt-ltb _ _ h) ∙ of-answer _ _ a
+      with-rank : 0 < ranks s → Lost → (ltb 0 (ranks s) && not sound) ≡ true
+      with-rank h a = ap (λ (b : Bool). b && not sound) (lt-ltb _ _ h) ∙ of-answer _ _ a
 
-      back : AttackBreaks c table s → (ltb 0 (ranks s) && not (ltb r (2 ^ uncontrollableCount c) && not (answered g out-of s r))) ≡ true
+      back : AttackBreaks c table s → (ltb 0 (ranks s) && not sound) ≡ true
       back (noReading h l) = with-rank h (over (le-ltb _ _ l))
       back (escapes h j below e o) = with-rank h (some (answers g out-of s r j below (e, falls-not h _ o)))

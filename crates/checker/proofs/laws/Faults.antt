@@ -23,9 +23,9 @@ use Rattle.net.specs.NetOf.{netOf}
 use Rattle.records.specs.AttackTable.{storedRank, storedAttack}
 use Rattle.records.specs.RegionBits.{holdsState}
 use Rattle.records.specs.ReplyBytes.{storedReply}
-use Rattle.checker.specs.Faults.{stateAt, readingAt, replyIn, replyMove, replyFault, attackFault}
+use Rattle.checker.specs.contracts.Faults.{stateAt, readingAt, replyIn, replyMove, replyFault, attackFault}
 use Rattle.checker.specs.Rules.{brokenReply, brokenAttack}
-use Rattle.checker.specs.Sized.{Sized, Holding}
+use Rattle.checker.specs.contracts.Sized.{Sized, Holding}
 
 module _ (net region table : List ℕ) (i : ℕ) where
   -- whether the stored reply keeps in the stored region

@@ -1,4 +1,4 @@
--- The judging of a table by its numbers, 13 to 15 in order, as the code takes them: reset is state 0. Assumes nothing.
+-- The judging of tables as the code takes it, over a net: 13, 14, where reset is state 0, and 15 at the lowest place. Assumes nothing.
 use Prim.Native.Nat.{ℕ, zero, suc, _+_, _*_, _^_, _<_, _≤_}
 use native.Mathlib.Omega.{arith}
 use mathlib.Core.Bool.{Bool, true, false, not, _&&_, _||_}
@@ -10,19 +10,25 @@ use lib.ListN.{length}
 use lib.Pow.{pow-add, pow-pos}
 use Rattle.below.specs.Least.{any, every}
 use Rattle.below.proofs.laws.Least.{any-of, none-any}
-use Rattle.circuit.specs.Circuit.{Circuit, latchCount}
-use Rattle.circuit.specs.Outcome.{Outcome, taken, refused, _>>_, refuseIf}
+use Rattle.circuit.specs.Circuit.{Circuit, latchCount, uncontrollableCount}
+use Rattle.circuit.specs.Outcome.{Outcome, taken, refused, _>>_}
 use Rattle.circuit.specs.Reset.{isReset}
-use Rattle.circuit.proofs.laws.Outcome.{test-refuses, test-passes}
 use Rattle.game.specs.CircuitGame.{circuitGame}
+use Rattle.net.specs.Net.{netLatches, netReadings}
+use Rattle.net.specs.NetOf.{netOf}
 use Rattle.records.specs.AttackTable.{attackLength, storedRank}
-use Rattle.records.specs.RegionBits.{regionLength, holdsState, unusedBitSet}
-use Rattle.records.specs.ReplyBytes.{replyLength}
-use Rattle.checker.specs.Answer.{Starts}
-use Rattle.checker.specs.CircuitChecked.{repliesJudged, attacksJudged}
-use Rattle.checker.proofs.laws.Counted.{Counted}
+use Rattle.records.specs.RegionBits.{holdsState}
+use Rattle.records.specs.Tables.{Tables}
+use Rattle.checker.specs.Answer.{Starts, ofReplies, ofAttacks}
+use Rattle.checker.specs.Check.{tablesChecked}
 use Rattle.checker.specs.Numbers.{badTable, badReset, brokenStep}
-use Rattle.checker.specs.Rules.{badReplyTables, badAttackTable, resetOutside, resetUnranked, brokenReply, brokenAttack}
+use Rattle.checker.specs.Rules.{badlySized, badReplyTables, badAttackTable, resetOutside, resetUnranked}
+use Rattle.checker.specs.Rules.{brokenReply, someReplyBroken, brokenAttack, someAttackBroken}
+use Rattle.checker.specs.contracts.Faults.{firstReplyFault, firstAttackFault}
+use Rattle.checker.specs.contracts.TablesAs.{RepliesAs, AttacksAs}
+use Rattle.checker.proofs.laws.Counted.{net-latches-are, net-readings-are}
+use Rattle.checker.proofs.laws.Faults.{broken-reply-is, broken-attack-is}
+use Rattle.checker.proofs.laws.JudgedBy.{judged-bad, judged-reset, judged-broken, judged-fine}
 
 -- a test that is false of every number but 0
 only-zero : (p : ℕ → Bool) (n : ℕ) → 0 < n → ((s : ℕ) → (s ≡ 0 → ⊥) → p s ≡ false) → any p n ≡ p 0
@@ -36,99 +42,125 @@ only-zero p n h others = by (p 0) refl
     by true e = any-of p n 0 h e ∙ sym e
     by false e = none-any p n (λ s l. at e s) ∙ sym e
 
-module _ (c : Circuit) (L U C : ℕ) (counted : Counted c L U C) where
-  states-is : circuitGame c .states ≡ 2 ^ L
-  unfolding circuitGame
-  states-is = ap (λ (n : ℕ). 2 ^ n) (sym (counted .latches))
-
-  places-is : circuitGame c .states * circuitGame c .readings ≡ 2 ^ (L + U)
-  unfolding circuitGame
-  places-is = sym (pow-add 2 L U ∙ ap₂ (λ (n m : ℕ). 2 ^ n * 2 ^ m) (counted .latches) (counted .readings))
-
 not-not : (b : Bool) → not (not b) ≡ b
 not-not true = refl
 not-not false = refl
 
-module _ (c : Circuit) (L U C : ℕ) (counted : Counted c L U C) where
-  -- 14, for the one reset state
-  reset-outside-is : (region : List ℕ) → resetOutside c region ≡ not (holdsState region L 0)
-  unfolding resetOutside isReset circuitGame
-  reset-outside-is region =
-      only-zero (λ s. eqb s 0 && not (holdsState region (latchCount c) s)) (2 ^ latchCount c) (pow-pos (latchCount c))
-      (λ s d. ap (λ (b : Bool). b && not (holdsState region (latchCount c) s)) (ne-eqb s 0 d))
-      ∙ ap (λ (n : ℕ). not (holdsState region n 0)) (sym (counted .latches))
+-- 14, for the one reset state
+reset-outside-is : (c : Circuit) (region : List ℕ) → resetOutside c region ≡ not (holdsState region (latchCount c) 0)
+unfolding resetOutside isReset circuitGame
+reset-outside-is c region =
+    only-zero (λ s. eqb s 0 && not (holdsState region (latchCount c) s)) (2 ^ latchCount c) (pow-pos (latchCount c))
+    (λ s d. ap (λ (b : Bool). b && not (holdsState region (latchCount c) s)) (ne-eqb s 0 d))
 
-  reset-unranked-is : (table : List ℕ) → resetUnranked c table ≡ eqb (storedRank table L 0) 0
-  unfolding resetUnranked every isReset circuitGame
-  reset-unranked-is table =
-      ap not
-      (only-zero (λ s. not (not (eqb s 0) || eqb (storedRank table (latchCount c) s) 0)) (2 ^ latchCount c) (pow-pos (latchCount c))
-      (λ s d. ap (λ (b : Bool). not (not b || eqb (storedRank table (latchCount c) s) 0)) (ne-eqb s 0 d)))
-      ∙ not-not (eqb (storedRank table (latchCount c) 0) 0)
-      ∙ ap (λ (n : ℕ). eqb (storedRank table n 0) 0) (sym (counted .latches))
+reset-unranked-is : (c : Circuit) (table : List ℕ) → resetUnranked c table ≡ eqb (storedRank table (latchCount c) 0) 0
+unfolding resetUnranked every isReset circuitGame
+reset-unranked-is c table =
+    ap not
+    (only-zero (λ s. not (not (eqb s 0) || eqb (storedRank table (latchCount c) s) 0)) (2 ^ latchCount c) (pow-pos (latchCount c))
+    (λ s d. ap (λ (b : Bool). not (not b || eqb (storedRank table (latchCount c) s) 0)) (ne-eqb s 0 d)))
+    ∙ not-not (eqb (storedRank table (latchCount c) 0) 0)
 
-  module _ (region table : List ℕ) (starts : Starts) (bad : Bool) (sized : bad ≡ (not (eqb (length region) (regionLength L)) || not (eqb (length table) (replyLength L U)) || unusedBitSet region L)) where
+-- an outcome of the judging, and what is answered then
+told : (o judged : Outcome Tables) (passed : Outcome Starts) → judged ≡ o → (o >> passed) ≡ (judged >> passed)
+told o judged passed e = ap (λ (p : Outcome Tables). p >> passed) (sym e)
+
+module _ (net region table : List ℕ) (L U start behind : ℕ) (latches : L ≡ netLatches net) (readings : U ≡ netReadings net) (bad : Bool)
+    (sizes : bad ≡ badlySized region table L U) where
+  abbrev Answers : Outcome Starts → Type 0
+  Answers answer = RepliesAs net region table start behind answer
+
+  module _ (c : Circuit) (is : net ≡ netOf c) where
+    same-latches : L ≡ latchCount c
+    same-latches = latches ∙ net-latches-are c net is
+
+    same-readings : U ≡ uncontrollableCount c
+    same-readings = readings ∙ net-readings-are c net is
+
     bad-is : badReplyTables c region table ≡ bad
     unfolding badReplyTables
-    bad-is = sym (sized ∙ λ i. not (eqb (length region) (regionLength (counted .latches i))) || not (eqb (length table) (replyLength (counted .latches i) (counted .readings i))) || unusedBitSet region (counted .latches i))
+    bad-is = sym (sizes ∙ ap₂ (badlySized region table) same-latches same-readings)
 
-    after-reset : Outcome Starts
-    after-reset = refuseIf (ltb (brokenReply c region table) (circuitGame c .states * circuitGame c .readings)) brokenStep (brokenReply c region table) >> taken starts
+    outside-is : (b : Bool) → holdsState region L 0 ≡ b → resetOutside c region ≡ not b
+    outside-is b e = reset-outside-is c region ∙ ap not (ap (λ (n : ℕ). holdsState region n 0) (sym same-latches) ∙ e)
 
-    pub replies-badly-sized : bad ≡ true → refused badTable 0 ≡ repliesJudged c region table starts
-    unfolding repliesJudged
-    replies-badly-sized e = sym (test-refuses (badReplyTables c region table) badTable 0 _ (bad-is ∙ e))
+    place-is : (place : ℕ) → place ≡ firstReplyFault net region table → place ≡ brokenReply c region table
+    place-is place e = e ∙ broken-reply-is c net is region table
 
-    fourteen : bad ≡ false → (refuseIf (resetOutside c region) badReset 0 >> after-reset) ≡ repliesJudged c region table starts
-    unfolding repliesJudged after-reset
-    fourteen e = sym (test-passes (badReplyTables c region table) badTable 0 _ (bad-is ∙ e))
+    broken-is : (place : ℕ) → place ≡ brokenReply c region table → someReplyBroken c region table ≡ ltb place (2 ^ (L + U))
+    unfolding circuitGame
+    broken-is place e =
+        ap₂ ltb (sym e) (sym (pow-add 2 L U ∙ ap₂ (λ (n m : ℕ). 2 ^ n * 2 ^ m) same-latches same-readings))
 
-    pub replies-badly-reset : bad ≡ false → holdsState region L 0 ≡ false → refused badReset 0 ≡ repliesJudged c region table starts
-    replies-badly-reset e f = sym (test-refuses (resetOutside c region) badReset 0 after-reset (reset-outside-is region ∙ ap not f)) ∙ fourteen e
+  pub replies-badly-sized : bad ≡ true → Answers (refused badTable 0)
+  unfolding tablesChecked
+  replies-badly-sized e c is circuit kind = told _ _ _ (judged-bad _ _ _ _ _ (bad-is c is ∙ e))
 
-    module _ (e : bad ≡ false) (f : holdsState region L 0 ≡ true) (place : ℕ) (is : place ≡ brokenReply c region table) where
-      fifteen : (refuseIf (ltb place (2 ^ (L + U))) brokenStep place >> taken starts) ≡ repliesJudged c region table starts
-      unfolding after-reset
-      fifteen =
-          (λ i. refuseIf (ltb (is i) (sym (places-is c L U C counted) i)) brokenStep (is i) >> taken starts)
-          ∙ sym (test-passes (resetOutside c region) badReset 0 after-reset (reset-outside-is region ∙ ap not f))
-          ∙ fourteen e
+  module _ (sized : bad ≡ false) where
+    pub replies-badly-reset : holdsState region L 0 ≡ false → Answers (refused badReset 0)
+    unfolding tablesChecked
+    replies-badly-reset f c is circuit kind = told _ _ _ (judged-reset _ _ _ _ _ (bad-is c is ∙ sized) (outside-is c is false f))
 
-      pub replies-broken : place < 2 ^ (L + U) → refused brokenStep place ≡ repliesJudged c region table starts
-      replies-broken h = sym (test-refuses (ltb place (2 ^ (L + U))) brokenStep place (taken starts) (lt-ltb _ _ h)) ∙ fifteen
+    module _ (f : holdsState region L 0 ≡ true) (place : ℕ)
+        (lowest : place ≡ firstReplyFault net region table) where
+      pub replies-broken : place < 2 ^ (L + U) → Answers (refused brokenStep place)
+      unfolding tablesChecked
+      replies-broken h c is circuit kind =
+          let at = place-is c is place lowest in
+          ap (refused brokenStep) at
+          ∙ told _ _ _ (judged-broken _ _ _ _ _ (bad-is c is ∙ sized) (outside-is c is true f) (broken-is c is place at ∙ lt-ltb _ _ h))
 
-      pub replies-pass : 2 ^ (L + U) ≤ place → taken starts ≡ repliesJudged c region table starts
-      replies-pass h = sym (test-passes (ltb place (2 ^ (L + U))) brokenStep place (taken starts) (le-ltb _ _ h)) ∙ fifteen
+      pub replies-pass : 2 ^ (L + U) ≤ place → Answers (taken (ofReplies start behind L U))
+      unfolding tablesChecked
+      replies-pass h c is circuit kind =
+          let at = place-is c is place lowest in
+          (λ x. taken (ofReplies start behind (latches x) (readings x)))
+          ∙ told _ _ _ (judged-fine _ _ _ _ _ (bad-is c is ∙ sized) (outside-is c is true f) (broken-is c is place at ∙ le-ltb _ _ h))
 
-  module _ (table : List ℕ) (starts : Starts) where
-    bad-attack-is : badAttackTable c table ≡ not (eqb (length table) (3 * 2 ^ L))
+module _ (net table : List ℕ) (L start states rank : ℕ) (latches : L ≡ netLatches net) (all : states ≡ 2 ^ L) (ranked : rank ≡ storedRank table L 0) where
+  abbrev Told : Outcome Starts → Type 0
+  Told answer = AttacksAs net table start answer
+
+  module _ (c : Circuit) (is : net ≡ netOf c) where
+    states-are : states ≡ 2 ^ latchCount c
+    states-are = all ∙ ap (λ (n : ℕ). 2 ^ n) (latches ∙ net-latches-are c net is)
+
+    long-is : badAttackTable c table ≡ not (eqb (length table) (3 * states))
     unfolding badAttackTable attackLength
-    bad-attack-is = ap (λ (n : ℕ). not (eqb (length table) (3 * 2 ^ n))) (sym (counted .latches))
+    long-is = ap (λ (n : ℕ). not (eqb (length table) (3 * n))) (sym states-are)
 
-    after-rank : Outcome Starts
-    after-rank = refuseIf (ltb (brokenAttack c table) (circuitGame c .states)) brokenStep (brokenAttack c table) >> taken starts
+    unranked-is : resetUnranked c table ≡ eqb rank 0
+    unranked-is =
+        reset-unranked-is c table
+        ∙ ap (λ (n : ℕ). eqb n 0) (sym (ranked ∙ ap (λ (n : ℕ). storedRank table n 0) (latches ∙ net-latches-are c net is)))
 
-    pub attacks-badly-sized : (length table ≡ 3 * 2 ^ L → ⊥) → refused badTable 0 ≡ attacksJudged c table starts
-    unfolding attacksJudged
-    attacks-badly-sized d = sym (test-refuses (badAttackTable c table) badTable 0 _ (bad-attack-is ∙ ap not (ne-eqb _ _ d)))
+    lost-is : (place : ℕ) → place ≡ brokenAttack c table → someAttackBroken c table ≡ ltb place states
+    unfolding circuitGame
+    lost-is place e = ap₂ ltb (sym e) (sym states-are)
 
-    fourteen-attacks : length table ≡ 3 * 2 ^ L → (refuseIf (resetUnranked c table) badReset 0 >> after-rank) ≡ attacksJudged c table starts
-    unfolding attacksJudged after-rank
-    fourteen-attacks e = sym (test-passes (badAttackTable c table) badTable 0 _ (bad-attack-is ∙ ap not (eq-eqb _ _ e)))
+  pub attacks-badly-sized : (length table ≡ 3 * states → ⊥) → Told (refused badTable 0)
+  unfolding tablesChecked
+  attacks-badly-sized d c is circuit = told _ _ _ (judged-bad _ _ _ _ _ (long-is c is ∙ ap not (ne-eqb _ _ d)))
 
-    pub attacks-badly-reset : length table ≡ 3 * 2 ^ L → storedRank table L 0 ≡ 0 → refused badReset 0 ≡ attacksJudged c table starts
-    attacks-badly-reset e f = sym (test-refuses (resetUnranked c table) badReset 0 after-rank (reset-unranked-is table ∙ eq-eqb _ _ f)) ∙ fourteen-attacks e
+  module _ (long : length table ≡ 3 * states) where
+    fits : (c : Circuit) → net ≡ netOf c → badAttackTable c table ≡ false
+    fits c is = long-is c is ∙ ap not (eq-eqb _ _ long)
 
-    module _ (e : length table ≡ 3 * 2 ^ L) (f : storedRank table L 0 ≡ 0 → ⊥) (place : ℕ) (is : place ≡ brokenAttack c table) where
-      fifteen-attacks : (refuseIf (ltb place (2 ^ L)) brokenStep place >> taken starts) ≡ attacksJudged c table starts
-      unfolding after-rank
-      fifteen-attacks =
-          (λ i. refuseIf (ltb (is i) (sym (states-is c L U C counted) i)) brokenStep (is i) >> taken starts)
-          ∙ sym (test-passes (resetUnranked c table) badReset 0 after-rank (reset-unranked-is table ∙ ne-eqb _ _ f))
-          ∙ fourteen-attacks e
+    pub attacks-badly-reset : rank ≡ 0 → Told (refused badReset 0)
+    unfolding tablesChecked
+    attacks-badly-reset f c is circuit = told _ _ _ (judged-reset _ _ _ _ _ (fits c is) (unranked-is c is ∙ eq-eqb _ _ f))
 
-      pub attacks-broken : place < 2 ^ L → refused brokenStep place ≡ attacksJudged c table starts
-      attacks-broken h = sym (test-refuses (ltb place (2 ^ L)) brokenStep place (taken starts) (lt-ltb _ _ h)) ∙ fifteen-attacks
+    module _ (f : rank ≡ 0 → ⊥) (place : ℕ) (lowest : place ≡ firstAttackFault net table) where
+      pub attacks-broken : place < states → Told (refused brokenStep place)
+      unfolding tablesChecked
+      attacks-broken h c is circuit =
+          let at = lowest ∙ broken-attack-is c net is table in
+          ap (refused brokenStep) at
+          ∙ told _ _ _ (judged-broken _ _ _ _ _ (fits c is) (unranked-is c is ∙ ne-eqb _ _ f) (lost-is c is place at ∙ lt-ltb _ _ h))
 
-      pub attacks-pass : 2 ^ L ≤ place → taken starts ≡ attacksJudged c table starts
-      attacks-pass h = sym (test-passes (ltb place (2 ^ L)) brokenStep place (taken starts) (le-ltb _ _ h)) ∙ fifteen-attacks
+      pub attacks-pass : states ≤ place → (U : ℕ) → U ≡ netReadings net → Told (taken (ofAttacks start L U))
+      unfolding tablesChecked
+      attacks-pass h U readings c is circuit =
+          let at = lowest ∙ broken-attack-is c net is table in
+          (λ x. taken (ofAttacks start (latches x) (readings x)))
+          ∙ told _ _ _ (judged-fine _ _ _ _ _ (fits c is) (unranked-is c is ∙ ne-eqb _ _ f) (lost-is c is place at ∙ le-ltb _ _ h))

@@ -11,17 +11,15 @@ use lib.Dec.{ltb}
 use lib.Pow.{pow-pos}
 use Rattle.below.specs.Least.{least}
 use Rattle.below.proofs.laws.Least.{least-holds, least-before, least-is}
+use Rattle.below.proofs.laws.Says.{fails-test}
 use Rattle.circuit.specs.Circuit.{Circuit, latchCount, uncontrollableCount}
 use Rattle.game.specs.Attack.{attackBroken}
 use Rattle.game.specs.CircuitGame.{circuitGame}
 use Rattle.game.specs.Reply.{replyBroken}
-use Rattle.records.specs.AttackTable.{storedRank, storedAttack}
-use Rattle.records.specs.RegionBits.{holdsState}
-use Rattle.records.specs.ReplyBytes.{storedReply}
 use Rattle.checker.specs.Lowest.{LowestReply, LowestAttack}
-use Rattle.checker.specs.Rules.{brokenReply, brokenAttack}
+use Rattle.checker.specs.Rules.{brokenReply, someReplyBroken, brokenAttack, someAttackBroken}
+use Rattle.checker.specs.StoredFor.{heldAt, replyAt, rankAt, attackAt}
 use Rattle.checker.proofs.laws.Breaks.{reply-breaks, attack-breaks}
-use Rattle.checker.proofs.laws.WrongTables.{fails-test}
 
 -- a test that fails below a place holds at none below it
 not-below : (p : ℕ → Bool) (n i : ℕ) → p i ≡ true → least p n ≤ i
@@ -39,7 +37,7 @@ module _ (c : Circuit) (region table : List ℕ) where
   n = 2 ^ uncontrollableCount c
 
   abbrev broken : ℕ → ℕ → Bool
-  broken = replyBroken (circuitGame c) (holdsState region (latchCount c)) (storedReply table (latchCount c) (uncontrollableCount c))
+  broken = replyBroken (circuitGame c) (heldAt c region) (replyAt c table)
 
   abbrev flat : ℕ → Bool
   flat i = broken (i / n) (i % n)
@@ -53,7 +51,7 @@ module _ (c : Circuit) (region table : List ℕ) where
   reading-of : (i : ℕ) → i % n < n
   reading-of i = mod-lt i (pow-pos (uncontrollableCount c))
 
-  pub lowest-reply : ltb (brokenReply c region table) (circuitGame c .states * circuitGame c .readings) ≡ true → LowestReply c region table (brokenReply c region table)
+  pub lowest-reply : someReplyBroken c region table ≡ true → LowestReply c region table (brokenReply c region table)
   unfolding brokenReply circuitGame
   lowest-reply e =
       let i : ℕ = least flat (m * n) in
@@ -68,7 +66,7 @@ module _ (c : Circuit) (region table : List ℕ) where
         lowest = λ s r state reading b. not-below flat (m * n) (s * n + r) (flat-is s r reading ∙ reply-breaks c region table s r state .1 b);
       }
 
-  pub reply-lowest : (place : ℕ) → LowestReply c region table place → (ltb (brokenReply c region table) (circuitGame c .states * circuitGame c .readings) ≡ true) × (brokenReply c region table ≡ place)
+  pub reply-lowest : (place : ℕ) → LowestReply c region table place → (someReplyBroken c region table ≡ true) × (brokenReply c region table ≡ place)
   unfolding brokenReply circuitGame
   reply-lowest place w = (lt-ltb (least flat (m * n)) (m * n) (omega (arith, is, below)), is)
     where
@@ -89,9 +87,9 @@ module _ (c : Circuit) (region table : List ℕ) where
 
 module _ (c : Circuit) (table : List ℕ) where
   abbrev lost : ℕ → Bool
-  lost = attackBroken (circuitGame c) (storedRank table (latchCount c)) (storedAttack table (latchCount c))
+  lost = attackBroken (circuitGame c) (rankAt c table) (attackAt c table)
 
-  pub lowest-attack : ltb (brokenAttack c table) (circuitGame c .states) ≡ true → LowestAttack c table (brokenAttack c table)
+  pub lowest-attack : someAttackBroken c table ≡ true → LowestAttack c table (brokenAttack c table)
   unfolding brokenAttack circuitGame
   lowest-attack e =
       let n : ℕ = 2 ^ latchCount c in
@@ -102,7 +100,7 @@ module _ (c : Circuit) (table : List ℕ) where
         lowest = λ s state b. not-below lost n s (attack-breaks c table s .1 b);
       }
 
-  pub attack-lowest : (place : ℕ) → LowestAttack c table place → (ltb (brokenAttack c table) (circuitGame c .states) ≡ true) × (brokenAttack c table ≡ place)
+  pub attack-lowest : (place : ℕ) → LowestAttack c table place → (someAttackBroken c table ≡ true) × (brokenAttack c table ≡ place)
   unfolding brokenAttack circuitGame
   attack-lowest place w = (lt-ltb (least lost (2 ^ latchCount c)) (2 ^ latchCount c) (omega (arith, is, w .isState)), is)
     where

@@ -1,39 +1,39 @@
 -- A pass, taken apart: the file is read, the certificate has tables, its circuit part is the file byte by byte, and the tables pass for the
 -- circuit (01, "The certificate": a certificate passes exactly if no number applies). Assumes nothing.
-use Prim.Native.Nat.{ℕ, _*_}
+use Prim.Native.Nat.{ℕ}
 use mathlib.Core.Bool.{false, not}
 use mathlib.Core.List.{List, _++_}
 use mathlib.Core.Option.{Option, none, some}
 use mathlib.Core.Path.{_≡_, ap, _∙_, subst}
 use borrow.Author.Tests.{not-false}
-use lib.Dec.{ltb}
 use Rattle.bits.specs.Bytes.{sameBytes}
 use Rattle.bits.specs.Digits.{AllBelow}
 use Rattle.bits.proofs.laws.Bytes.{same-bytes-equal}
 use Rattle.circuit.specs.Circuit.{Circuit}
-use Rattle.circuit.specs.Outcome.{taken, _>>=_, _>>_, refuseIf}
+use Rattle.circuit.specs.Outcome.{Outcome, taken, _>>=_, _>>_, refuseIf}
 use Rattle.circuit.proofs.laws.Outcome.{refused-is-not-taken, bind-taken, passed-test}
 use Rattle.file.specs.CircuitIn.{circuitIn}
-use Rattle.game.specs.CircuitGame.{circuitGame}
 use Rattle.records.specs.Record.{recordOf, whole, circuitKind}
-use Rattle.records.specs.Tables.{Tables, replies, attacks, tablesOf, circuitPart}
+use Rattle.records.specs.Tables.{acceptedKinds, Tables, replies, attacks, tablesOf, circuitPart}
 use Rattle.records.proofs.laws.Record.{whole-record}
 use Rattle.records.proofs.laws.Tables.{tables-begin}
-use Rattle.checker.specs.Check.{acceptedKinds, orBadShape, tablesChecked, checkOf}
-use Rattle.checker.specs.Numbers.{badTable, badReset, brokenStep, otherCircuit}
-use Rattle.checker.specs.Rules.{badReplyTables, badAttackTable, resetOutside, resetUnranked, brokenReply, brokenAttack}
+use Rattle.checker.specs.Check.{orBadShape, tablesChecked, checkOf}
+use Rattle.checker.specs.Numbers.{otherCircuit}
+use Rattle.checker.specs.Rules.{badReplyTables, badAttackTable, resetOutside, resetUnranked}
+use Rattle.checker.specs.Rules.{brokenReply, someReplyBroken, brokenAttack, someAttackBroken}
+use Rattle.checker.proofs.laws.JudgedBy.{fine-judged}
 
 -- no number applies to a reply table
 pub record RepliesPass (c : Circuit) (region table : List ℕ) : Type 0 where
   pub sized : badReplyTables c region table ≡ false
   pub reset : resetOutside c region ≡ false
-  pub rule : ltb (brokenReply c region table) (circuitGame c .states * circuitGame c .readings) ≡ false
+  pub rule : someReplyBroken c region table ≡ false
 
 -- no number applies to an attack table
 pub record AttacksPass (c : Circuit) (table : List ℕ) : Type 0 where
   pub sized : badAttackTable c table ≡ false
   pub reset : resetUnranked c table ≡ false
-  pub rule : ltb (brokenAttack c table) (circuitGame c .states) ≡ false
+  pub rule : someAttackBroken c table ≡ false
 
 abbrev pub TablesPass : Circuit → Tables → Type 0
 TablesPass c (replies circuit region kind table) = RepliesPass c region table
@@ -42,21 +42,11 @@ TablesPass c (attacks circuit table) = AttacksPass c table
 pub tables-pass : (c : Circuit) (u t : Tables) → tablesChecked c u ≡ taken t → (u ≡ t) × TablesPass c u
 unfolding tablesChecked
 tables-pass c (replies circuit region kind table) t e =
-    let place = brokenReply c region table in
-    let broken = ltb place (circuitGame c .states * circuitGame c .readings) in
-    let fourteen = refuseIf broken brokenStep place >> taken (replies circuit region kind table) in
-    let (sized, e1) = passed-test (badReplyTables c region table) badTable 0 (refuseIf (resetOutside c region) badReset 0 >> fourteen) t e in
-    let (reset, e2) = passed-test (resetOutside c region) badReset 0 fourteen t e1 in
-    let (rule, e3) = passed-test broken brokenStep place (taken (replies circuit region kind table)) t e2 in
-    (cc, record { sized = sized; reset = reset; rule = rule })
+    let fine = fine-judged _ _ _ (brokenReply c region table) (replies circuit region kind table) t e in
+    (fine .same, record { sized = fine .sized; reset = fine .reset-is; rule = fine .rule })
 tables-pass c (attacks circuit table) t e =
-    let place = brokenAttack c table in
-    let broken = ltb place (circuitGame c .states) in
-    let fourteen = refuseIf broken brokenStep place >> taken (attacks circuit table) in
-    let (sized, e1) = passed-test (badAttackTable c table) badTable 0 (refuseIf (resetUnranked c table) badReset 0 >> fourteen) t e in
-    let (reset, e2) = passed-test (resetUnranked c table) badReset 0 fourteen t e1 in
-    let (rule, e3) = passed-test broken brokenStep place (taken (attacks circuit table)) t e2 in
-    (cc, record { sized = sized; reset = reset; rule = rule })
+    let fine = fine-judged _ _ _ (brokenAttack c table) (attacks circuit table) t e in
+    (fine .same, record { sized = fine .sized; reset = fine .reset-is; rule = fine .rule })
 
 pub record Passes (file certificate : List ℕ) (t : Tables) : Type 0 where
   pub circuit : Circuit
@@ -74,8 +64,10 @@ pub pass-is : (file certificate : List ℕ) (t : Tables) → checkOf file certif
 unfolding checkOf
 pass-is file certificate t e =
     let shape = orBadShape (tablesOf acceptedKinds certificate) in
-    let (c, reads, e1) = bind-taken (circuitIn file) (λ c. shape >>= λ u. refuseIf (not (sameBytes (circuitPart u) file)) otherCircuit 0 >> tablesChecked c u) t e in
-    let (u, shaped, e2) = bind-taken shape (λ u. refuseIf (not (sameBytes (circuitPart u) file)) otherCircuit 0 >> tablesChecked c u) t e1 in
+    let on : Circuit → Tables → Outcome Tables =
+    λ c u. refuseIf (not (sameBytes (circuitPart u) file)) otherCircuit 0 >> tablesChecked c u in
+    let (c, reads, e1) = bind-taken (circuitIn file) (λ c. shape >>= on c) t e in
+    let (u, shaped, e2) = bind-taken shape (on c) t e1 in
     let (same, e3) = passed-test (not (sameBytes (circuitPart u) file)) otherCircuit 0 (tablesChecked c u) t e2 in
     let (is, fine) = tables-pass c u t e3 in
     subst (Passes file certificate) is
@@ -92,7 +84,9 @@ pub pass-same-circuit : (file certificate : List ℕ) (t : Tables) → checkOf f
 pass-same-circuit file certificate t e = pass-is file certificate t e .same
 
 -- and the certificate begins with its record
-pub pass-begins : (file certificate : List ℕ) (t : Tables) → AllBelow 256 certificate → checkOf file certificate ≡ taken t → (rest : List ℕ) × (certificate ≡ recordOf circuitKind file ++ rest)
+pub pass-begins :
+    (file certificate : List ℕ) (t : Tables) → AllBelow 256 certificate → checkOf file certificate ≡ taken t
+    → (rest : List ℕ) × (certificate ≡ recordOf circuitKind file ++ rest)
 pass-begins file certificate t bytes e =
     let p = pass-is file certificate t e in
     let (rest, first) = tables-begin acceptedKinds certificate t (p .tables) in

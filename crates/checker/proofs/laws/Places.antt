@@ -12,8 +12,9 @@ use Rattle.net.specs.Move.{moveOf}
 use Rattle.net.specs.Net.{netLatches, netReadings, netControls}
 use Rattle.records.specs.RegionBits.{holdsState}
 use Rattle.records.specs.ReplyBytes.{storedReply}
-use Rattle.checker.specs.Faults.{stateAt, replyIn, replyMove}
-use Rattle.checker.specs.Sized.{Sized}
+use Rattle.checker.specs.contracts.Faults.{stateAt, replyIn, replyMove}
+use Rattle.checker.specs.contracts.Sized.{Sized}
+use Rattle.checker.proofs.laws.Counted.{limited-move}
 
 module _ (U width : ℕ) (is : width ≡ 2 ^ U) where
   pub width-positive : 0 < width
@@ -41,17 +42,10 @@ module _ (net table : List ℕ) (place L U w : ℕ) (latches : L ≡ netLatches 
 
     pub move-is : Sized net → (C move : ℕ) → C ≡ netControls net
         → move ≡ moveOf (min L (base .latches)) (min U (base .inputs)) (min C (base .inputs)) (place / w) (place % v) reply → move ≡ replyMove net table place
-    unfolding replyMove netMove
-    move-is sized C move controls e = e ∙ λ x. moveOf (l x) (u x) (k x) (place / wide w is x) (place % wide v also x) (reply-is x)
-      where
-        l : min L (base .latches) ≡ netLatches net
-        l = omega (arith, sized .order .states)
-
-        u : min U (base .inputs) ≡ netReadings net
-        u = omega (arith, sized .fewReadings)
-
-        k : min C (base .inputs) ≡ netControls net
-        k = omega (arith, sized .fewControls)
+    unfolding replyMove
+    move-is sized C move controls e =
+        e ∙ limited-move net sized L U C latches readings controls (place / w) (place % v) reply
+        ∙ λ x. netMove net (place / wide w is x) (place % wide v also x) (reply-is x)
 
 -- the state and the reading of a place fit the numbers that a move takes
 module _ (net : List ℕ) (sized : Sized net) (place U w : ℕ) (readings : U ≡ netReadings net) (is : w ≡ 2 ^ U) where

@@ -23,14 +23,16 @@ use Rattle.records.specs.Passed.{replyIn}
 use Rattle.records.specs.Record.{headLength}
 use Rattle.records.specs.RegionBits.{regionLength, holdsState, unusedBitSet}
 use Rattle.records.specs.ReplyBytes.{replyLength, storedReply}
-use Rattle.records.specs.Shape.{shapeOf, part}
-use Rattle.records.specs.Tables.{Tables, replies, attacks}
+use Rattle.records.specs.Shape.{shapeOf}
+use Rattle.records.specs.Tables.{acceptedKinds, Tables, replies, attacks}
+use Rattle.records.specs.contracts.Part.{part}
 use Rattle.records.proofs.laws.Parts.{reply-parts, attack-parts}
 use Rattle.records.proofs.laws.Passed.{reply-inside, region-in-front, replies-in-front, ranks-in-front, attacks-in-front}
 use Rattle.records.proofs.laws.Tables.{tables-begin}
 use Rattle.checker.specs.Answer.{Starts, ofReplies, ofAttacks, startsOf, answerOf}
-use Rattle.checker.specs.Check.{acceptedKinds, checkOf}
+use Rattle.checker.specs.Check.{checkOf}
 use Rattle.checker.specs.Rules.{badReplyTables, badAttackTable}
+use Rattle.checker.specs.StoredFor.{heldAt, replyAt, rankAt, attackAt}
 use Rattle.checker.proofs.laws.Means.{passes-for, replies-hold, replies-realizable, attacks-err, attacks-unrealizable}
 use Rattle.checker.proofs.laws.Pass.{RepliesPass, AttacksPass, pass-is}
 
@@ -41,10 +43,14 @@ none-of true false d e = (refl, sym e)
 none-of false b d e = (sym e, cc)
 
 -- tables that pass have their lengths
-replies-long : (c : Circuit) (region table : List ℕ) → RepliesPass c region table → (length region ≡ regionLength (latchCount c)) × (length table ≡ replyLength (latchCount c) (uncontrollableCount c))
+replies-long :
+    (c : Circuit) (region table : List ℕ) → RepliesPass c region table
+    → (length region ≡ regionLength (latchCount c)) × (length table ≡ replyLength (latchCount c) (uncontrollableCount c))
 unfolding badReplyTables
 replies-long c region table p =
-    let (one, two) = none-of (eqb (length region) (regionLength (latchCount c))) (eqb (length table) (replyLength (latchCount c) (uncontrollableCount c))) (unusedBitSet region (latchCount c)) (p .sized) in
+    let states : Bool = eqb (length region) (regionLength (latchCount c)) in
+    let places : Bool = eqb (length table) (replyLength (latchCount c) (uncontrollableCount c)) in
+    let (one, two) = none-of states places (unusedBitSet region (latchCount c)) (p .sized) in
     (eqb-true _ _ one, eqb-true _ _ two)
 
 attacks-long : (c : Circuit) (table : List ℕ) → AttacksPass c table → length table ≡ attackLength (latchCount c)
@@ -58,11 +64,14 @@ part-front bytes table start end e f =
     e ∙ ap (λ (n : ℕ). take n (drop start bytes)) long
 
 -- replies that differ outside the set alone hold alike
-hold-inside : (g : Game) (set : ℕ → Bool) (given other : ℕ → ℕ → ℕ) → ((s r : ℕ) → set s ≡ true → other s r ≡ given s r) → (s : ℕ) (rs : List ℕ) → RepliesHold g set given s rs → RepliesHold g set other s rs
+hold-inside :
+    (g : Game) (set : ℕ → Bool) (given other : ℕ → ℕ → ℕ) → ((s r : ℕ) → set s ≡ true → other s r ≡ given s r) → (s : ℕ) (rs : List ℕ)
+    → RepliesHold g set given s rs → RepliesHold g set other s rs
 hold-inside g set given other same s [] h = h
 hold-inside g set given other same s (r ∷ rs) (e, below, clear, rest) =
     let on = hold-inside g set given other same ((g .step s r (given s r)) .next) rs rest in
-    subst (λ (k : ℕ). (set s ≡ true) × (k < g .controls) × ((g .step s r k) .error ≡ false) × RepliesHold g set other ((g .step s r k) .next) rs) (sym (same s r e)) (e, below, clear, on)
+    subst (λ (k : ℕ). (set s ≡ true) × (k < g .controls) × ((g .step s r k) .error ≡ false) × RepliesHold g set other ((g .step s r k) .next) rs)
+    (sym (same s r e)) (e, below, clear, on)
 
 -- equal tables have equal parts
 same-replies : (a b : List ℕ) (k : ℕ) (d a₂ b₂ : List ℕ) (k₂ : ℕ) (d₂ : List ℕ) → some (replies a b k d) ≡ some (replies a₂ b₂ k₂ d₂) → (b ≡ b₂) × (d ≡ d₂)
@@ -108,6 +117,7 @@ module _ (file certificate : List ℕ) (c : Circuit) (read : circuitIn file ≡ 
     pub kind : ℕ
     pub tableBytes : List ℕ
     pub checks : checkOf file certificate ≡ taken (replies circuitBytes regionBytes kind tableBytes)
+    pub fine : RepliesPass c regionBytes tableBytes
     pub latches : latchCount c ≡ L
     pub readings : uncontrollableCount c ≡ U
     pub region-front : regionBytes ≡ take (length regionBytes) (drop region certificate)
@@ -131,6 +141,7 @@ module _ (file certificate : List ℕ) (c : Circuit) (read : circuitIn file ≡ 
             kind = kind;
             tableBytes = bytes;
             checks = f;
+            fine = passes-for file certificate (replies circuit states kind bytes) c f read;
             latches = cc;
             readings = cc;
             region-front = part-front certificate states _ _ states-are refl ∙ ap (λ (n : ℕ). take (length states) (drop n certificate)) begins;
@@ -142,6 +153,7 @@ module _ (file certificate : List ℕ) (c : Circuit) (read : circuitIn file ≡ 
     pub circuitBytes : List ℕ
     pub tableBytes : List ℕ
     pub checks : checkOf file certificate ≡ taken (attacks circuitBytes tableBytes)
+    pub fine : AttacksPass c tableBytes
     pub latches : latchCount c ≡ L
     pub table-front : tableBytes ≡ take (length tableBytes) (drop table certificate)
 
@@ -160,6 +172,7 @@ module _ (file certificate : List ℕ) (c : Circuit) (read : circuitIn file ≡ 
             circuitBytes = circuit;
             tableBytes = bytes;
             checks = f;
+            fine = passes-for file certificate (attacks circuit bytes) c f read;
             latches = cc;
             table-front = part-front certificate bytes _ _ bytes-are refl ∙ ap (λ (n : ℕ). take (length bytes) (drop n certificate)) starts;
           }
@@ -169,52 +182,71 @@ module _ (file certificate : List ℕ) (c : Circuit) (read : circuitIn file ≡ 
     judged = replies-took region table L U pass
 
     long : (length (judged .regionBytes) ≡ regionLength (latchCount c)) × (length (judged .tableBytes) ≡ replyLength (latchCount c) (uncontrollableCount c))
-    long = replies-long c (judged .regionBytes) (judged .tableBytes) (passes-for file certificate (replies (judged .circuitBytes) (judged .regionBytes) (judged .kind) (judged .tableBytes)) c (judged .checks) read)
+    long = replies-long c (judged .regionBytes) (judged .tableBytes) (judged .fine)
+
+    -- the bytes from each start on
+    abbrev regionOn : List ℕ
+    regionOn = drop region certificate
+
+    abbrev repliesOn : List ℕ
+    repliesOn = drop table certificate
 
     -- the region's bits and the replies are those of the records
-    pub bits-are : (s : ℕ) → holdsState (judged .regionBytes) (latchCount c) s ≡ holdsState (drop region certificate) L s
-    bits-are s = ap₂ (λ (l : List ℕ) (n : ℕ). holdsState l n s) (judged .region-front) (judged .latches) ∙ region-in-front (drop region certificate) (length (judged .regionBytes)) L s (long .0 ∙ ap regionLength (judged .latches))
+    pub bits-are : (s : ℕ) → heldAt c (judged .regionBytes) s ≡ holdsState regionOn L s
+    bits-are s =
+        ap₂ (λ (l : List ℕ) (n : ℕ). holdsState l n s) (judged .region-front) (judged .latches)
+        ∙ region-in-front regionOn (length (judged .regionBytes)) L s (long .0 ∙ ap regionLength (judged .latches))
 
-    pub replies-are : (s r : ℕ) → storedReply (judged .tableBytes) (latchCount c) (uncontrollableCount c) s r ≡ storedReply (drop table certificate) L U s r
+    pub replies-are : (s r : ℕ) → replyAt c (judged .tableBytes) s r ≡ storedReply repliesOn L U s r
     replies-are s r =
         (λ i. storedReply (judged .table-front i) (judged .latches i) (judged .readings i) s r)
-        ∙ replies-in-front (drop table certificate) (length (judged .tableBytes)) L s U r (long .1 ∙ ap₂ replyLength (judged .latches) (judged .readings))
+        ∙ replies-in-front repliesOn (length (judged .tableBytes)) L s U r (long .1 ∙ ap₂ replyLength (judged .latches) (judged .readings))
 
     -- for every finite run of readings a reply is read, the error is 0 and the state stays in the region that is read
-    pub replies-hold-as-read : (rs : List ℕ) → AllBelow (2 ^ U) rs → RepliesHold (circuitGame c) (holdsState (drop region certificate) L) (replyIn (drop region certificate) (drop table certificate) L U) 0 rs
+    pub replies-hold-as-read :
+        (rs : List ℕ) → AllBelow (2 ^ U) rs → RepliesHold (circuitGame c) (holdsState regionOn L) (replyIn regionOn repliesOn L U) 0 rs
     replies-hold-as-read rs h =
-        let stored = replies-hold file certificate c read (judged .circuitBytes) (judged .regionBytes) (judged .kind) (judged .tableBytes) (judged .checks) rs (subst (λ (n : ℕ). AllBelow (2 ^ n) rs) (sym (judged .readings)) h) in
-        let set : _≡_ {A = ℕ → Bool} (holdsState (judged .regionBytes) (latchCount c)) (holdsState (drop region certificate) L) = λ i s. bits-are s i in
-        let answers : _≡_ {A = ℕ → ℕ → ℕ} (storedReply (judged .tableBytes) (latchCount c) (uncontrollableCount c)) (storedReply (drop table certificate) L U) = λ i s r. replies-are s r i in
-        hold-inside (circuitGame c) (holdsState (drop region certificate) L) (storedReply (drop table certificate) L U) (replyIn (drop region certificate) (drop table certificate) L U)
-        (λ s r e. reply-inside (drop region certificate) (drop table certificate) L U s r e) 0 rs
+        let below = subst (λ (n : ℕ). AllBelow (2 ^ n) rs) (sym (judged .readings)) h in
+        let stored = replies-hold c (judged .regionBytes) (judged .tableBytes) (judged .fine) rs below in
+        let set : _≡_ {A = ℕ → Bool} (heldAt c (judged .regionBytes)) (holdsState regionOn L) = λ i s. bits-are s i in
+        let answers : _≡_ {A = ℕ → ℕ → ℕ} (replyAt c (judged .tableBytes)) (storedReply repliesOn L U) = λ i s r. replies-are s r i in
+        hold-inside (circuitGame c) (holdsState regionOn L) (storedReply repliesOn L U) (replyIn regionOn repliesOn L U)
+        (λ s r e. reply-inside regionOn repliesOn L U s r e) 0 rs
         (subst₂ (λ (f : ℕ → Bool) (g : ℕ → ℕ → ℕ). RepliesHold (circuitGame c) f g 0 rs) set answers stored)
 
     pub replies-realizable-as-read : isRealizable c ≡ true
-    replies-realizable-as-read = replies-realizable file certificate c read (judged .circuitBytes) (judged .regionBytes) (judged .kind) (judged .tableBytes) (judged .checks)
+    replies-realizable-as-read = replies-realizable c (judged .regionBytes) (judged .tableBytes) (judged .fine)
 
   module _ (table L U : ℕ) (pass : answerOf file certificate ≡ taken (ofAttacks table L U)) where
     abbrev judgedAttacks : AttacksTook table L U
     judgedAttacks = attacks-took table L U pass
 
+    abbrev attacksOn : List ℕ
+    attacksOn = drop table certificate
+
     wide : length (judgedAttacks .tableBytes) ≡ attackLength L
-    wide = attacks-long c (judgedAttacks .tableBytes) (passes-for file certificate (attacks (judgedAttacks .circuitBytes) (judgedAttacks .tableBytes)) c (judgedAttacks .checks) read) ∙ ap attackLength (judgedAttacks .latches)
+    wide = attacks-long c (judgedAttacks .tableBytes) (judgedAttacks .fine) ∙ ap attackLength (judgedAttacks .latches)
 
     -- the ranks and attacks are those of the record
-    pub ranks-are : (s : ℕ) → storedRank (judgedAttacks .tableBytes) (latchCount c) s ≡ storedRank (drop table certificate) L s
-    ranks-are s = ap₂ (λ (l : List ℕ) (n : ℕ). storedRank l n s) (judgedAttacks .table-front) (judgedAttacks .latches) ∙ ranks-in-front (drop table certificate) (length (judgedAttacks .tableBytes)) L s wide
+    pub ranks-are : (s : ℕ) → rankAt c (judgedAttacks .tableBytes) s ≡ storedRank attacksOn L s
+    ranks-are s =
+        ap₂ (λ (l : List ℕ) (n : ℕ). storedRank l n s) (judgedAttacks .table-front) (judgedAttacks .latches)
+        ∙ ranks-in-front attacksOn (length (judgedAttacks .tableBytes)) L s wide
 
-    pub attacks-are : (s : ℕ) → storedAttack (judgedAttacks .tableBytes) (latchCount c) s ≡ storedAttack (drop table certificate) L s
-    attacks-are s = ap₂ (λ (l : List ℕ) (n : ℕ). storedAttack l n s) (judgedAttacks .table-front) (judgedAttacks .latches) ∙ attacks-in-front (drop table certificate) (length (judgedAttacks .tableBytes)) L s wide
+    pub attacks-are : (s : ℕ) → attackAt c (judgedAttacks .tableBytes) s ≡ storedAttack attacksOn L s
+    attacks-are s =
+        ap₂ (λ (l : List ℕ) (n : ℕ). storedAttack l n s) (judgedAttacks .table-front) (judgedAttacks .latches)
+        ∙ attacks-in-front attacksOn (length (judgedAttacks .tableBytes)) L s wide
 
     -- against every strategy of controls the error is 1 no later than the step given by the rank that is read of state 0
-    pub attacks-err-as-read : (σ : Strategy) → ErrsWithin (circuitGame c) (storedAttack (drop table certificate) L) σ [] (storedRank (drop table certificate) L 0) 0
+    pub attacks-err-as-read : (σ : Strategy) → ErrsWithin (circuitGame c) (storedAttack attacksOn L) σ [] (storedRank attacksOn L 0) 0
     attacks-err-as-read σ =
-        let attacked : _≡_ {A = ℕ → ℕ} (storedAttack (judgedAttacks .tableBytes) (latchCount c)) (storedAttack (drop table certificate) L) = λ i s. attacks-are s i in
-        subst₂ (λ (f : ℕ → ℕ) (n : ℕ). ErrsWithin (circuitGame c) f σ [] n 0) attacked (ranks-are 0) (attacks-err file certificate c read (judgedAttacks .circuitBytes) (judgedAttacks .tableBytes) (judgedAttacks .checks) σ)
+        let attacked : _≡_ {A = ℕ → ℕ} (attackAt c (judgedAttacks .tableBytes)) (storedAttack attacksOn L) = λ i s. attacks-are s i in
+        subst₂ (λ (f : ℕ → ℕ) (n : ℕ). ErrsWithin (circuitGame c) f σ [] n 0) attacked (ranks-are 0)
+        (attacks-err c (judgedAttacks .tableBytes) (judgedAttacks .fine) σ)
 
     pub attacks-unrealizable-as-read : isRealizable c ≡ false
-    attacks-unrealizable-as-read = attacks-unrealizable file certificate c read (judgedAttacks .circuitBytes) (judgedAttacks .tableBytes) (judgedAttacks .checks)
+    attacks-unrealizable-as-read = attacks-unrealizable c (judgedAttacks .tableBytes) (judgedAttacks .fine)
 
 -- a certificate passes only for a file that is read
 pub passed-reads : (file certificate : List ℕ) (starts : Starts) → answerOf file certificate ≡ taken starts → (c : Circuit) × (circuitIn file ≡ taken c)
@@ -227,7 +259,9 @@ pub carries-its-file : (file certificate : List ℕ) (starts : Starts) → answe
 carries-its-file file certificate starts e = let (c, reads) = passed-reads file certificate starts e in carries-file file certificate c reads starts e
 
 -- no file has both kinds pass
-pub never-both-as-read : (file one other : List ℕ) (region table L U table₂ L₂ U₂ : ℕ) → answerOf file one ≡ taken (ofReplies region table L U) → answerOf file other ≡ taken (ofAttacks table₂ L₂ U₂) → ⊥
+pub never-both-as-read :
+    (file one other : List ℕ) (region table L U table₂ L₂ U₂ : ℕ) → answerOf file one ≡ taken (ofReplies region table L U)
+    → answerOf file other ≡ taken (ofAttacks table₂ L₂ U₂) → ⊥
 never-both-as-read file one other region table L U table₂ L₂ U₂ e f =
     let (c, reads) = passed-reads file one (ofReplies region table L U) e in
     true≢false (sym (replies-realizable-as-read file one c reads region table L U e) ∙ attacks-unrealizable-as-read file other c reads table₂ L₂ U₂ f)

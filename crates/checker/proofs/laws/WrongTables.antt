@@ -12,6 +12,7 @@ use lib.ListN.{length}
 use lib.Pow.{pow-pos}
 use Rattle.below.specs.Least.{least}
 use Rattle.below.proofs.laws.Least.{any-of, any-least, any-holds, every-at, every-of}
+use Rattle.below.proofs.laws.Says.{test-fails, fails-test}
 use Rattle.bits.specs.BitBytes.{unusedBit as unusedIn}
 use Rattle.bits.specs.ByteBit.{byteBit}
 use Rattle.bits.proofs.laws.Bytes.{both-true}
@@ -25,14 +26,6 @@ use Rattle.checker.specs.Rules.{badReplyTables, badAttackTable, resetOut
 use Rattle.checker.specs.StoredRegion.{Holds}
 use Rattle.checker.specs.WrongReset.{ResetNotHeld, ResetOfRankZero}
 use Rattle.checker.specs.WrongTables.{WrongReplies, badRegionLength, badReplyLength, unusedBit, WrongAttacks}
-
--- a test that says a statement, where it fails
-pub test-fails : {P : Type 0} (t : Bool) → (t ≡ true) ↔ P → t ≡ false → P → ⊥
-test-fails t says e p = true≢false (sym (says .1 p) ∙ e)
-
-pub fails-test : {P : Type 0} (t : Bool) → (t ≡ true) ↔ P → (P → ⊥) → t ≡ false
-fails-test true says other = absurd (other (says .0 refl))
-fails-test false says other = refl
 
 -- the stored region, by its test
 pub holds-state : (region : List ℕ) (L s : ℕ) → s < 2 ^ L → (holdsState region L s ≡ true) ↔ Holds region s

@@ -39,12 +39,16 @@ module _ (bytes : List ℕ) (n L s : ℕ) where
 
   pub replies-in-front : (U r : ℕ) → n ≡ replyLength L U → storedReply (take n bytes) L U s r ≡ storedReply bytes L U s r
   unfolding storedReply replyLength
-  replies-in-front U r e = getD-take n bytes (s % 2 ^ L * 2 ^ U + r % 2 ^ U) 0 (omega (arith, pow-add 2 L U, digits-lt {q = s % 2 ^ L} {m = 2 ^ L} {r = r % 2 ^ U} {c = 2 ^ U} state-below (mod-lt r (pow-pos U))))
+  replies-in-front U r e =
+      let below = digits-lt {q = s % 2 ^ L} {m = 2 ^ L} {r = r % 2 ^ U} {c = 2 ^ U} state-below (mod-lt r (pow-pos U)) in
+      getD-take n bytes (s % 2 ^ L * 2 ^ U + r % 2 ^ U) 0 (omega (arith, pow-add 2 L U, below))
 
   module _ (e : n ≡ attackLength L) where
     pub ranks-in-front : storedRank (take n bytes) L s ≡ storedRank bytes L s
     unfolding storedRank attackLength
-    ranks-in-front = ap₂ (λ (a b : ℕ). sum 256 (a ∷ b ∷ [])) (getD-take n bytes (3 * (s % 2 ^ L)) 0 (omega (arith, state-below))) (getD-take n bytes (3 * (s % 2 ^ L) + 1) 0 (omega (arith, state-below)))
+    ranks-in-front =
+        ap₂ (λ (a b : ℕ). sum 256 (a ∷ b ∷ [])) (getD-take n bytes (3 * (s % 2 ^ L)) 0 (omega (arith, state-below)))
+        (getD-take n bytes (3 * (s % 2 ^ L) + 1) 0 (omega (arith, state-below)))
 
     pub attacks-in-front : storedAttack (take n bytes) L s ≡ storedAttack bytes L s
     unfolding storedAttack attackLength

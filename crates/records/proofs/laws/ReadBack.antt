@@ -39,7 +39,8 @@ pub reply-back : (replies : ℕ → ℕ → ℕ) (L U s r : ℕ) → s < 2 ^ L �
 unfolding storedReply replyBytes replyLength
 reply-back replies L U s r h l =
     ap₂ (λ (n m : ℕ). getD (replyBytes replies L U) (n * 2 ^ U + m) 0) (mod-eq-of-lt h) (mod-eq-of-lt l)
-    ∙ getD-table (λ i. replies (i / 2 ^ U) (i % 2 ^ U)) (2 ^ (L + U)) (s * 2 ^ U + r) 0 (omega (arith, pow-add 2 L U, digits-lt {q = s} {m = 2 ^ L} {r = r} {c = 2 ^ U} h l))
+    ∙ getD-table (λ i. replies (i / 2 ^ U) (i % 2 ^ U)) (2 ^ (L + U)) (s * 2 ^ U + r) 0
+    (omega (arith, pow-add 2 L U, digits-lt {q = s} {m = 2 ^ L} {r = r} {c = 2 ^ U} h l))
     ∙ ap₂ replies (digits-div s l) (digits-mod s l)
 
 module _ (ranks attacks : ℕ → ℕ) (L s : ℕ) (state : s < 2 ^ L) where
@@ -55,7 +56,8 @@ module _ (ranks attacks : ℕ → ℕ) (L s : ℕ) (state : s < 2 ^ L) where
   pub rank-back : ranks s < 65536 → storedRank (attackBytes ranks attacks L) L s ≡ ranks s
   unfolding storedRank row digits
   rank-back h =
-      ap₂ (λ (a b : ℕ). sum 256 (a ∷ b ∷ [])) (ap (λ (n : ℕ). getD (attackBytes ranks attacks L) n 0) (omega arith) ∙ in-table 0 (omega arith)) (in-table 1 (omega arith))
+      ap₂ (λ (a b : ℕ). sum 256 (a ∷ b ∷ []))
+      (ap (λ (n : ℕ). getD (attackBytes ranks attacks L) n 0) (omega arith) ∙ in-table 0 (omega arith)) (in-table 1 (omega arith))
       ∙ sum-digits 256 2 (ranks s) (omega arith)
       ∙ mod-eq-of-lt h
 

@@ -12,6 +12,7 @@ use lib.Dec.{eqb, leb}
 use lib.ListN.{length, getD}
 use borrow.Author.Tests.{ltb-true, leb-false, eqb-true, eqb-false}
 use Rattle.below.specs.Among.{member}
+use Rattle.below.proofs.laws.Says.{test-fails, fails-test}
 use Rattle.circuit.specs.Literal.{variable, mayDefine, tooLarge}
 use Rattle.circuit.specs.Outcome.{Outcome, taken, refused}
 use Rattle.text.specs.InList.{All, In}
@@ -27,14 +28,6 @@ use Rattle.text.specs.Written.{numberLine}
 use Rattle.text.proofs.laws.Line.{numbers-line, numbers-is, none-is-not-some}
 use Rattle.text.proofs.laws.Lists.{neither, either, member-in, in-member}
 use Rattle.text.proofs.laws.Rules.{not-too-large, good-own, known-of, known-is}
-
--- a test that says a statement, where it fails
-pub test-fails : {P : Type 0} (t : Bool) → (t ≡ true) ↔ P → t ≡ false → P → ⊥
-test-fails t says e p = true≢false (sym (says .1 p) ∙ e)
-
-pub fails-test : {P : Type 0} (t : Bool) → (t ≡ true) ↔ P → (P → ⊥) → t ≡ false
-fails-test true says other = absurd (other (says .0 refl))
-fails-test false says other = refl
 
 -- the rule of a kind of line, and its tests
 abbrev pub ruleOf : Kind → ℕ → Rule

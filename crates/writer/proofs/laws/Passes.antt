@@ -28,10 +28,10 @@ use Rattle.records.specs.AttackTable.{attackLength}
 use Rattle.records.specs.Record.{replyKind}
 use Rattle.records.specs.RegionBits.{regionLength}
 use Rattle.records.specs.ReplyBytes.{replyLength}
-use Rattle.records.specs.Tables.{Tables, replies, attacks, tablesOf, circuitPart}
+use Rattle.records.specs.Tables.{acceptedKinds, Tables, replies, attacks, tablesOf, circuitPart}
 use Rattle.records.proofs.laws.Lengths.{length-region, length-replies, length-attacks}
 use Rattle.records.proofs.laws.WrittenShape.{replies-shape, attacks-shape}
-use Rattle.checker.specs.Check.{acceptedKinds, orBadShape, tablesChecked, checkOf}
+use Rattle.checker.specs.Check.{orBadShape, tablesChecked, checkOf}
 use Rattle.checker.specs.Numbers.{otherCircuit, badTable, badReset, brokenStep}
 use Rattle.checker.specs.Rules.{badReplyTables, badAttackTable, resetOutside, resetUnranked, brokenReply, brokenAttack}
 use Rattle.checker.proofs.laws.Pass.{TablesPass}

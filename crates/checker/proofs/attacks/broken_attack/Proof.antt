@@ -6,7 +6,7 @@ use lib.Pow.{pow-mono}
 use Rattle.below.specs.Least.{least}
 use Rattle.below.proofs.laws.Passed.{Passed, passed-start, passed-next, passed-found, passed-end}
 use Rattle.circuit.specs.Limits.{base}
-use Rattle.checker.specs.Faults.{attackFault}
+use Rattle.checker.specs.contracts.Faults.{attackFault}
 use borrow.Author.Needs.{needs}
 use Rattle.checker.proofs.attacks.broken_attack.Statement.{statement}
 use Rattle.checker.proofs.attacks.broken_attack.Tie as tie

@@ -1,26 +1,14 @@
 -- `checker::attacks::check_attacks` meets its contract: 13, 14 and 15, in this order. Assumes nothing.
-use Prim.Native.Nat.{ℕ, _*_, _≤_}
+use Prim.Native.Nat.{_≤_}
 use native.Mathlib.Omega.{arith}
-use mathlib.Core.Path.{_≡_, refl, sym, ap, _∙_}
+use mathlib.Core.Path.{refl}
 use lib.Pow.{pow-mono}
-use Rattle.circuit.specs.Circuit.{Circuit}
 use Rattle.circuit.specs.Limits.{base}
-use Rattle.circuit.specs.Outcome.{taken}
-use Rattle.net.specs.Net.{netLatches, netReadings, netControls}
-use Rattle.net.specs.NetOf.{netOf}
-use Rattle.checker.specs.Answer.{ofAttacks, checkedOutcome}
-use Rattle.checker.proofs.laws.Counted.{Counted, counted-of}
-use Rattle.checker.proofs.laws.Faults.{broken-attack-is}
+use Rattle.checker.specs.Answer.{checkedOutcome}
 use Rattle.checker.proofs.laws.Judged.{attacks-badly-sized, attacks-badly-reset, attacks-broken, attacks-pass}
 use borrow.Author.Needs.{needs}
 use Rattle.checker.proofs.attacks.check_attacks.Statement.{statement}
 use Rattle.checker.proofs.attacks.check_attacks.Tie as tie
-
--- the counts, for any circuit whose net this is
-counts : (w : tie.After-latches-of) (d : Circuit) → w .before .before .before .args .net .now ≡ netOf d
-    → Counted d (w .latches-of .result) (netReadings (w .before .before .before .args .net .now)) (netControls (w .before .before .before .args .net .now))
-counts w d e = counted-of d (w .before .before .before .args .net .now) e (w .before .before .before .pre) (w .latches-of .result) _ (w .latches-of
-    .ensures) refl
 
 latches-of-requires : tie.Need-latches-of-requires
 latches-of-requires c κs = search needs
@@ -39,9 +27,8 @@ unfolding checkedOutcome
 returns c =
     let w = c .before .before in
     let a = w .before .before .before .args in
-    let n = a .net .now in
-    λ d e. attacks-badly-sized d (w .latches-of .result) (netReadings n) (netControls n) (counts w d e) (a .table .now)
-    (ofAttacks (a .start) (netLatches n) (netReadings n)) (λ f. c .if1 .taken (f ∙ sym (ap (λ (m : ℕ). 3 * m) (c .before .power .ensures))))
+    attacks-badly-sized (a .net .now) (a .table .now) _ (a .start) (c .before .power .result) _ (w .latches-of .ensures) (c .before .power .ensures) refl
+    (c .if1 .taken)
 
 stored-rank-requires : tie.Need-stored-rank-requires
 stored-rank-requires c κs = search needs
@@ -51,11 +38,10 @@ unfolding checkedOutcome
 returns-2 c =
     let w = c .before .before .before .before in
     let a = w .before .before .before .args in
-    let n = a .net .now in
-    λ d e. attacks-badly-reset d (w .latches-of .result) (netReadings n) (netControls n) (counts w d e) (a .table .now)
-    (ofAttacks (a .start) (netLatches n) (netReadings n))
-    (c .before .before .if1 .left ∙ ap (λ (m : ℕ). 3 * m) (c .before .before .before .power .ensures))
-    (sym (c .before .stored-rank .ensures) ∙ c .if2 .taken)
+    let p = c .before .before .before .power in
+    let k = c .before .stored-rank in
+    attacks-badly-reset (a .net .now) (a .table .now) _ (a .start) (p .result) (k .result) (w .latches-of .ensures) (p .ensures) (k .ensures)
+    (c .before .before .if1 .left) (c .if2 .taken)
 
 broken-attack-requires : tie.Need-broken-attack-requires
 broken-attack-requires c κs = c .before .before .before .before .before .before .before .pre
@@ -65,13 +51,11 @@ unfolding checkedOutcome
 returns-3 c =
     let w = c .before .before .before .before .before .before in
     let a = w .before .before .before .args in
-    let n = a .net .now in
+    let p = c .before .before .before .before .before .power in
+    let k = c .before .before .before .stored-rank in
     let b = c .before .broken-attack in
-    λ d e. attacks-broken d (w .latches-of .result) (netReadings n) (netControls n) (counts w d e) (a .table .now)
-    (ofAttacks (a .start) (netLatches n) (netReadings n))
-    (c .before .before .before .before .if1 .left ∙ ap (λ (m : ℕ). 3 * m) (c .before .before .before .before .before .power .ensures))
-    (λ f. c .before .before .if2 .left (c .before .before .before .stored-rank .ensures ∙ f)) (b .result)
-    (b .ensures ∙ broken-attack-is d n e (a .table .now)) (omega (arith, c .before .before .before .before .before .power .ensures))
+    attacks-broken (a .net .now) (a .table .now) _ (a .start) (p .result) (k .result) (w .latches-of .ensures) (p .ensures) (k .ensures)
+    (c .before .before .before .before .if1 .left) (c .before .before .if2 .left) (b .result) (b .ensures) (c .if3 .taken)
 
 readings-of-requires : tie.Need-readings-of-requires
 readings-of-requires c κs = search needs
@@ -81,14 +65,12 @@ unfolding checkedOutcome
 returns-4 c =
     let w = c .before .before .before .before .before .before .before in
     let a = w .before .before .before .args in
-    let n = a .net .now in
+    let p = c .before .before .before .before .before .before .power in
+    let k = c .before .before .before .before .stored-rank in
     let b = c .before .before .broken-attack in
-    λ d e. (λ x. taken (ofAttacks (a .start) (w .latches-of .ensures x) (c .readings-of .ensures x)))
-    ∙ attacks-pass d (w .latches-of .result) (netReadings n) (netControls n) (counts w d e) (a .table .now)
-    (ofAttacks (a .start) (netLatches n) (netReadings n))
-    (c .before .before .before .before .before .if1 .left ∙ ap (λ (m : ℕ). 3 * m) (c .before .before .before .before .before .before .power .ensures))
-    (λ f. c .before .before .before .if2 .left (c .before .before .before .before .stored-rank .ensures ∙ f)) (b .result)
-    (b .ensures ∙ broken-attack-is d n e (a .table .now)) (omega (arith, c .before .before .before .before .before .before .power .ensures))
+    attacks-pass (a .net .now) (a .table .now) _ (a .start) (p .result) (k .result) (w .latches-of .ensures) (p .ensures) (k .ensures)
+    (c .before .before .before .before .before .if1 .left) (c .before .before .before .if2 .left) (b .result) (b .ensures) (c .before .if3 .left)
+    (c .readings-of .result) (c .readings-of .ensures)
 
 pub check-attacks-spec : {M : Type 1} → statement M
 check-attacks-spec =

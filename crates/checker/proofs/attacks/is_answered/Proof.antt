@@ -11,7 +11,7 @@ use Rattle.game.specs.NetGame.{netMove, keepsBy}
 use Rattle.game.specs.Rank.{notRanked}
 use Rattle.net.specs.Net.{netLatches, netControls}
 use Rattle.records.specs.AttackTable.{storedRank}
-use Rattle.checker.specs.Sized.{Sized}
+use Rattle.checker.specs.contracts.Sized.{Sized}
 use Rattle.checker.proofs.laws.Answered.{Tried, tried-start, tried-next, tried-kept, tried-end, first-is, move-few, parted}
 use borrow.Author.Needs.{needs}
 use Rattle.checker.proofs.attacks.is_answered.Statement.{statement}

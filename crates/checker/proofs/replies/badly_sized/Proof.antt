@@ -21,7 +21,8 @@ returns : tie.Need-returns
 unfolding regionLength replyLength
 returns c =
     let a = c .before .before .before .before .args in
-    bad-region (a .region .now) (a .table .now) (a .latches) (a .readings) ((c .before .power .result + 7) / 8) (replyLength (a .latches) (a .readings)) (ap (λ (n : ℕ). (n + 7) / 8) (c .before .power .ensures)) refl (c .if1 .taken)
+    bad-region (a .region .now) (a .table .now) (a .latches) (a .readings) _ _ (ap (λ (n : ℕ). (n + 7) / 8) (c .before .power .ensures)) refl
+    (c .if1 .taken)
 
 add-power : tie.Need-add-power
 add-power c = search needs
@@ -33,16 +34,23 @@ returns-2 : tie.Need-returns-2
 unfolding regionLength replyLength
 returns-2 c =
     let a = c .before .before .before .before .before .before .args in
-    bad-table (a .region .now) (a .table .now) (a .latches) (a .readings) ((c .before .before .before .power .result + 7) / 8) (c .before .power2 .result) (ap (λ (n : ℕ). (n + 7) / 8) (c .before .before .before .power .ensures)) (c .before .power2 .ensures) (c .before .before .if1 .left) (c .if2 .taken)
+    bad-table (a .region .now) (a .table .now) (a .latches) (a .readings) _ _ (ap (λ (n : ℕ). (n + 7) / 8) (c .before .before .before .power .ensures))
+    (c .before .power2 .ensures) (c .before .before .if1 .left) (c .if2 .taken)
 
 unused-bit-set-requires : tie.Need-unused-bit-set-requires
-unused-bit-set-requires c κs = (c .before .before .before .before .before .before .pre .0, omega (arith, c .before .before .before .power .ensures, c .before .before .if1 .left, pow-mono {i = c .before .before .before .before .before .before .args .latches} {j = base .latches} (c .before .before .before .before .before .before .pre .0)))
+unused-bit-set-requires c κs =
+    let p = c .before .before .before .power in
+    let s = c .before .before .before .before .before .before in
+    let few = pow-mono {i = s .args .latches} {j = base .latches} (s .pre .0) in
+    (s .pre .0, omega (arith, p .ensures, c .before .before .if1 .left, few))
 
 returns-3 : tie.Need-returns-3
 unfolding regionLength replyLength
 returns-3 c =
     let a = c .before .before .before .before .before .before .before .args in
-    well-sized (a .region .now) (a .table .now) (a .latches) (a .readings) ((c .before .before .before .before .power .result + 7) / 8) (c .before .before .power2 .result) (ap (λ (n : ℕ). (n + 7) / 8) (c .before .before .before .before .power .ensures)) (c .before .before .power2 .ensures) (c .before .before .before .if1 .left) (c .before .if2 .left) (c .unused-bit-set .result) (c .unused-bit-set .ensures)
+    well-sized (a .region .now) (a .table .now) (a .latches) (a .readings) _ _
+    (ap (λ (n : ℕ). (n + 7) / 8) (c .before .before .before .before .power .ensures)) (c .before .before .power2 .ensures)
+    (c .before .before .before .if1 .left) (c .before .if2 .left) (c .unused-bit-set .result) (c .unused-bit-set .ensures)
 
 pub badly-sized-spec : {M : Type 1} → statement M
 badly-sized-spec =

@@ -6,8 +6,8 @@ use mathlib.Core.Path.{_≡_, sym, ap, _∙_, subst}
 use Rattle.below.specs.Least.{least}
 use Rattle.below.proofs.laws.Passed.{Passed, passed-start, passed-next, passed-found, passed-end}
 use Rattle.net.specs.Net.{netLatches, netReadings}
-use Rattle.checker.specs.Faults.{replyFault}
-use Rattle.checker.specs.Sized.{Holding}
+use Rattle.checker.specs.contracts.Faults.{replyFault}
+use Rattle.checker.specs.contracts.Sized.{Holding}
 use borrow.Author.Needs.{needs}
 use Rattle.checker.proofs.replies.broken_reply.Statement.{statement}
 use Rattle.checker.proofs.replies.broken_reply.Tie as tie

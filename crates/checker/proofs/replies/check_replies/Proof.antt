@@ -1,26 +1,12 @@
 -- `checker::replies::check_replies` meets its contract: 13, 14 and 15, in this order. Assumes nothing.
 use native.Mathlib.Omega.{arith}
-use mathlib.Core.Path.{_≡_, sym, _∙_}
+use mathlib.Core.Path.{sym, _∙_}
 use borrow.Author.Tests.{not-true, not-false}
-use Rattle.circuit.specs.Circuit.{Circuit}
-use Rattle.circuit.specs.Outcome.{taken}
-use Rattle.net.specs.Net.{netLatches, netReadings, netControls}
-use Rattle.net.specs.NetOf.{netOf}
-use Rattle.checker.specs.Answer.{ofReplies, checkedOutcome}
-use Rattle.checker.proofs.laws.Counted.{Counted, counted-of}
-use Rattle.checker.proofs.laws.Faults.{broken-reply-is}
+use Rattle.checker.specs.Answer.{checkedOutcome}
 use Rattle.checker.proofs.laws.Judged.{replies-badly-sized, replies-badly-reset, replies-broken, replies-pass}
 use borrow.Author.Needs.{needs}
 use Rattle.checker.proofs.replies.check_replies.Statement.{statement}
 use Rattle.checker.proofs.replies.check_replies.Tie as tie
-
--- the counts, for any circuit whose net this is
-counts : (w : tie.After-readings-of) (d : Circuit) → w .before .before .before .before .before .args .net .now ≡ netOf d
-    → Counted d (w .before .latches-of .result) (w .readings-of .result) (netControls (w .before .before .before .before .before .args .net .now))
-counts w d e =
-    let s = w .before .before .before .before .before in
-    counted-of d (s .args .net .now) e (s .pre) (w .before .latches-of .result) (w .readings-of .result) (w .before .latches-of .ensures)
-    (w .readings-of .ensures)
 
 latches-of-requires : tie.Need-latches-of-requires
 latches-of-requires c κs = search needs
@@ -38,9 +24,9 @@ unfolding checkedOutcome
 returns c =
     let w = c .before .before in
     let a = w .before .before .before .before .before .args in
-    let n = a .net .now in
-    λ d e. replies-badly-sized d (w .before .latches-of .result) (w .readings-of .result) (netControls n) (counts w d e) (a .region .now) (a .table .now)
-    (ofReplies (a .start) (a .replies) (netLatches n) (netReadings n)) (c .before .badly-sized .result) (c .before .badly-sized .ensures) (c .if1 .taken)
+    let b = c .before .badly-sized in
+    replies-badly-sized (a .net .now) (a .region .now) (a .table .now) _ _ (a .start) (a .replies) (w .before .latches-of .ensures)
+    (w .readings-of .ensures) (b .result) (b .ensures) (c .if1 .taken)
 
 holds-state-requires : tie.Need-holds-state-requires
 holds-state-requires c κs = search needs
@@ -50,11 +36,9 @@ unfolding checkedOutcome
 returns-2 c =
     let w = c .before .before .before .before in
     let a = w .before .before .before .before .before .args in
-    let n = a .net .now in
     let b = c .before .before .before .badly-sized in
-    λ d e. replies-badly-reset d (w .before .latches-of .result) (w .readings-of .result) (netControls n) (counts w d e) (a .region .now) (a .table .now)
-    (ofReplies (a .start) (a .replies) (netLatches n) (netReadings n)) (b .result) (b .ensures) (c .before .before .if1 .left)
-    (sym (c .before .holds-state .ensures) ∙ not-true _ (c .if2 .taken))
+    replies-badly-reset (a .net .now) (a .region .now) (a .table .now) _ _ (a .start) (a .replies) (w .before .latches-of .ensures)
+    (w .readings-of .ensures) (b .result) (b .ensures) (c .before .before .if1 .left) (sym (c .before .holds-state .ensures) ∙ not-true _ (c .if2 .taken))
 
 broken-reply-requires : tie.Need-broken-reply-requires
 broken-reply-requires c κs = c .before .before .before .before .before .before .before .before .before .pre
@@ -76,27 +60,24 @@ unfolding checkedOutcome
 returns-3 c =
     let w = c .before .before .before .before .before .before .before in
     let a = w .before .before .before .before .before .args in
-    let n = a .net .now in
     let b = c .before .before .before .before .before .before .badly-sized in
     let p = c .before .before .broken-reply in
-    λ d e. replies-broken d (w .before .latches-of .result) (w .readings-of .result) (netControls n) (counts w d e) (a .region .now) (a .table .now)
-    (ofReplies (a .start) (a .replies) (netLatches n) (netReadings n)) (b .result) (b .ensures) (c .before .before .before .before .before .if1 .left)
-    (sym (c .before .before .before .before .holds-state .ensures) ∙ not-false _ (c .before .before .before .if2 .left)) (p .result)
-    (p .ensures ∙ broken-reply-is d n e (a .region .now) (a .table .now)) (omega (arith, c .before .power .ensures))
+    replies-broken (a .net .now) (a .region .now) (a .table .now) _ _ (a .start) (a .replies) (w .before .latches-of .ensures)
+    (w .readings-of .ensures) (b .result) (b .ensures) (c .before .before .before .before .before .if1 .left)
+    (sym (c .before .before .before .before .holds-state .ensures) ∙ not-false _ (c .before .before .before .if2 .left)) (p .result) (p .ensures)
+    (omega (arith, c .before .power .ensures))
 
 returns-4 : tie.Need-returns-4
 unfolding checkedOutcome
 returns-4 c =
     let w = c .before .before .before .before .before .before .before in
     let a = w .before .before .before .before .before .args in
-    let n = a .net .now in
     let b = c .before .before .before .before .before .before .badly-sized in
     let p = c .before .before .broken-reply in
-    λ d e. (λ x. taken (ofReplies (a .start) (a .replies) (w .before .latches-of .ensures x) (w .readings-of .ensures x)))
-    ∙ replies-pass d (w .before .latches-of .result) (w .readings-of .result) (netControls n) (counts w d e) (a .region .now) (a .table .now)
-    (ofReplies (a .start) (a .replies) (netLatches n) (netReadings n)) (b .result) (b .ensures) (c .before .before .before .before .before .if1 .left)
-    (sym (c .before .before .before .before .holds-state .ensures) ∙ not-false _ (c .before .before .before .if2 .left)) (p .result)
-    (p .ensures ∙ broken-reply-is d n e (a .region .now) (a .table .now)) (omega (arith, c .before .power .ensures))
+    replies-pass (a .net .now) (a .region .now) (a .table .now) _ _ (a .start) (a .replies) (w .before .latches-of .ensures)
+    (w .readings-of .ensures) (b .result) (b .ensures) (c .before .before .before .before .before .if1 .left)
+    (sym (c .before .before .before .before .holds-state .ensures) ∙ not-false _ (c .before .before .before .if2 .left)) (p .result) (p .ensures)
+    (omega (arith, c .before .power .ensures))
 
 pub check-replies-spec : {M : Type 1} → statement M
 check-replies-spec =

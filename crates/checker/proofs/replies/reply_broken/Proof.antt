@@ -7,7 +7,7 @@ use Rattle.blocks.specs.Lane.{width, litsIn}
 use Rattle.game.specs.NetGame.{keepsBy}
 use Rattle.net.specs.Net.{netControls}
 use Rattle.records.specs.RegionBits.{holdsState}
-use Rattle.checker.specs.Sized.{Holding}
+use Rattle.checker.specs.contracts.Sized.{Holding}
 use Rattle.checker.proofs.laws.Faults.{outside-no-fault, no-control-fault, lane-fault}
 use Rattle.checker.proofs.laws.Places.{width-positive, held-is, reply-is}
 use borrow.Author.Needs.{needs}

@@ -28,7 +28,11 @@ byte-bit-requires c κs = search needs
 
 returns : tie.Need-returns Inv-loop μ-loop
 unfolding unusedBitSet
-returns c = let a = c .before .before .before .before .before .before .args in let l = c .before .before .before .loop in unused-found (a .region .now) (2 ^ a .latches) (l .i) (l .inv) (c .before .before .loop-test .taken) (sym (c .before .byte-bit .ensures) ∙ c .if1 .taken)
+returns c =
+    let a = c .before .before .before .before .before .before .args in
+    let l = c .before .before .before .loop in
+    unused-found (a .region .now) (2 ^ a .latches) (l .i) (l .inv) (c .before .before .loop-test .taken)
+    (sym (c .before .byte-bit .ensures) ∙ c .if1 .taken)
 
 add-i : tie.Need-add-i Inv-loop μ-loop
 add-i c = omega arith
@@ -37,11 +41,17 @@ loop-less : tie.Need-loop-less Inv-loop μ-loop
 loop-less c = omega arith
 
 loop-again : tie.Need-loop-again Inv-loop μ-loop
-loop-again c = let a = c .before .before .before .before .before .before .args in let l = c .before .before .before .loop in unused-next (a .region .now) (2 ^ a .latches) (l .i) (l .inv) (sym (c .before .byte-bit .ensures) ∙ c .if1 .left)
+loop-again c =
+    let a = c .before .before .before .before .before .before .args in
+    let l = c .before .before .before .loop in
+    unused-next (a .region .now) (2 ^ a .latches) (l .i) (l .inv) (sym (c .before .byte-bit .ensures) ∙ c .if1 .left)
 
 returns-2 : tie.Need-returns-2 Inv-loop μ-loop
 unfolding unusedBitSet
-returns-2 c = let a = c .before .before .before .before .args in let l = c .before .loop in unused-end (a .region .now) (2 ^ a .latches) (l .i) (l .inv) (c .loop-test .left)
+returns-2 c =
+    let a = c .before .before .before .before .args in
+    let l = c .before .loop in
+    unused-end (a .region .now) (2 ^ a .latches) (l .i) (l .inv) (c .loop-test .left)
 
 pub unused-bit-set-spec : {M : Type 1} → statement M
 unused-bit-set-spec =

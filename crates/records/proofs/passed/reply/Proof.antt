@@ -17,7 +17,8 @@ returns : tie.Need-returns
 returns c =
     let a = c .before .before .before .args in
     let l = a .certificate .now in
-    sym (reply-outside (drop (a .region) l) (drop (a .replies) l) (a .latches) (a .readings) (a .state) (a .reading) (sym (c .before .region-bit .ensures) ∙ not-true _ (c .if1 .taken)))
+    sym (reply-outside (drop (a .region) l) (drop (a .replies) l) (a .latches) (a .readings) (a .state) (a .reading)
+    (sym (c .before .region-bit .ensures) ∙ not-true _ (c .if1 .taken)))
 
 tail-requires : tie.Need-tail-requires
 tail-requires c κs = search needs
@@ -31,7 +32,8 @@ returns-2 c =
     let l = a .certificate .now in
     c .stored-reply .ensures
     ∙ ap (λ (t : List ℕ). storedReply t (a .latches) (a .readings) (a .state) (a .reading)) (c .before .tail .ensures)
-    ∙ sym (reply-inside (drop (a .region) l) (drop (a .replies) l) (a .latches) (a .readings) (a .state) (a .reading) (sym (c .before .before .before .region-bit .ensures) ∙ not-false _ (c .before .before .if1 .left)))
+    ∙ sym (reply-inside (drop (a .region) l) (drop (a .replies) l) (a .latches) (a .readings) (a .state) (a .reading)
+    (sym (c .before .before .before .region-bit .ensures) ∙ not-false _ (c .before .before .if1 .left)))
 
 pub reply-spec : {M : Type 1} → statement M
 reply-spec =

@@ -1,7 +1,8 @@
 -- A broken step rule of the stored tables, at one place (01, "The numbers", 15), in the game of a net. Assumes nothing.
-use Prim.Native.Nat.{ℕ, _/_, _%_, _^_}
+use Prim.Native.Nat.{ℕ, _+_, _/_, _%_, _^_}
 use mathlib.Core.Bool.{Bool}
 use mathlib.Core.List.{List}
+use Rattle.below.specs.Least.{least}
 use Rattle.game.specs.Attack.{attackBroken}
 use Rattle.game.specs.NetGame.{netGame, netMove}
 use Rattle.game.specs.Reply.{replyBroken}
@@ -30,6 +31,13 @@ replyFault net region table i =
     replyBroken (netGame net) (holdsState region (netLatches net)) (storedReply table (netLatches net) (netReadings net)) (stateAt net i)
     (readingAt net i)
 
+-- the lowest place of such a reply, or how many places there are
+abbrev pub firstReplyFault : (net region table : List ℕ) → ℕ
+firstReplyFault net region table = least (replyFault net region table) (2 ^ (netLatches net + netReadings net))
+
 -- the stored attack of a state of a stored rank above 0 breaks it
 unfoldable pub attackFault : (net table : List ℕ) (state : ℕ) → Bool
 attackFault net table s = attackBroken (netGame net) (storedRank table (netLatches net)) (storedAttack table (netLatches net)) s
+
+abbrev pub firstAttackFault : (net table : List ℕ) → ℕ
+firstAttackFault net table = least (attackFault net table) (2 ^ netLatches net)
