@@ -39,8 +39,7 @@ fn with_bit(byte: u8, k: usize, b: bool) -> u8
     ensures { λ r. ⌜ r ≡ withBit byte k b ⌝ }
 {
     let weight = 1 << k;
-    let old = (byte >> k) & 1;
-    let without = byte - old * weight;
+    let without = byte - (byte & weight);
     if b { without + weight } else { without }
 }
 

@@ -1,10 +1,11 @@
 -- What holds of a bit of a number, at every width. Assumes nothing.
 use Prim.Native.Nat.{ℕ, zero, suc, _+_, _*_, _-_, _/_, _%_, _^_, _<_, _≤_, min, max}
 use native.Mathlib.Omega.{arith}
-use native.Mathlib.Nat.{div-one, mul-comm, pow-suc, div-div-eq-div-mul, mod-lt, div-eq-of-lt, mod-eq-of-lt, pow-zero, not-suc-le-zero, le-of-suc-le-suc, mul-one, one-mul, zero-div, zero-mod, mod-mod, mod-one}
+use native.Mathlib.Nat.{div-one, mul-comm, pow-suc, div-div-eq-div-mul, div-eq-of-lt, mod-eq-of-lt, pow-zero}
+use native.Mathlib.Nat.{not-suc-le-zero, le-of-suc-le-suc, mul-one, one-mul, zero-div, zero-mod, mod-mod, mod-one}
 use lib.Arith.{mod-mul}
 use lib.Pow.{pow-pos, pow-lt}
-use lib.Bits.{bitAnd, bitOr, and-mask, or-step, or-zero-r}
+use lib.Bits.{bitAnd, and-mask, and-step, and-zero-r}
 use mathlib.Core.Bool.{Bool, true, false}
 use mathlib.Core.List.{List, [], _∷_}
 use mathlib.Core.Logic.{_≢_}
@@ -90,7 +91,8 @@ bit-with-other n zero (suc j) b h = rw (bit-suc, with-bit-zero) (ap (λ (m : ℕ
     half : (n / 2 * 2 + oneIf b) / 2 ≡ n / 2
     half = omega (arith, one-if-below b)
 bit-with-other n (suc k) zero b h = rw (bit-zero, with-bit-suc) (omega (arith, bit-zero n))
-bit-with-other n (suc k) (suc j) b h = rw (bit-suc, with-bit-suc) (ap (λ (m : ℕ). bit m j) half ∙ bit-with-other (n / 2) k j b (λ e. h (ap suc e)) ∙ sym (bit-suc n j))
+bit-with-other n (suc k) (suc j) b h =
+    rw (bit-suc, with-bit-suc) (ap (λ (m : ℕ). bit m j) half ∙ bit-with-other (n / 2) k j b (λ e. h (ap suc e)) ∙ sym (bit-suc n j))
   where
     half : (withBit (n / 2) k b * 2 + n % 2) / 2 ≡ withBit (n / 2) k b
     half = omega arith
@@ -98,16 +100,42 @@ bit-with-other n (suc k) (suc j) b h = rw (bit-suc, with-bit-suc) (ap (λ (m : �
 pub with-bit-below : (n k w : ℕ) (b : Bool) → n < 2 ^ w → k < w → withBit n k b < 2 ^ w
 with-bit-below n k zero b h l = absurd (not-suc-le-zero l)
 with-bit-below n zero (suc w) b h l = rw with-bit-zero (omega (arith, pow-suc 2 w, one-if-below b))
-with-bit-below n (suc k) (suc w) b h l = rw with-bit-suc (omega (arith, pow-suc 2 w, with-bit-below (n / 2) k w b (omega (arith, pow-suc 2 w)) (le-of-suc-le-suc l)))
+with-bit-below n (suc k) (suc w) b h l =
+    let below = with-bit-below (n / 2) k w b (omega (arith, pow-suc 2 w)) (le-of-suc-le-suc l) in
+    rw with-bit-suc (omega (arith, pow-suc 2 w, below))
 
--- bit k of a byte taken out, by shift and mask, and its weight, as code has them
-module _ (byte k : ℕ) (fits : byte < 256) (low : k < 8) where
-  pub weight-is : 1 * 2 ^ k % 256 ≡ 2 ^ k
+-- bit k alone, by a mask
+pub part-by-mask : (n k : ℕ) → bitAnd n (2 ^ k) ≡ bit n k * 2 ^ k
+part-by-mask n zero = rw (bit-zero, mul-one) (and-step n 1 ∙ ap (λ (m : ℕ). m * 2 + min (n % 2) 1) (and-zero-r (n / 2)) ∙ low (n % 2) (omega arith))
+  where
+    low : (m : ℕ) → m < 2 → 0 * 2 + min m 1 ≡ m
+    low m h = omega arith
+part-by-mask n (suc k) =
+    and-step n (2 ^ suc k)
+    ∙ ap₂ (λ (a b : ℕ). bitAnd (n / 2) a * 2 + min (n % 2) b) half even
+    ∙ rw (bit-suc, pow-suc) (omega (arith, part-by-mask (n / 2) k))
+  where
+    half : 2 ^ suc k / 2 ≡ 2 ^ k
+    half = omega (arith, pow-suc 2 k)
+
+    even : 2 ^ suc k % 2 ≡ 0
+    even = omega (arith, pow-suc 2 k)
+
+-- bit k of a byte put by its weight and a mask, as code does it
+module _ (byte k : ℕ) (low : k < 8) where
+  weight-is : 1 * 2 ^ k % 256 ≡ 2 ^ k
   weight-is = rw one-mul (mod-eq-of-lt (pow-lt {i = k} {j = 8} low))
 
-  pub part-is : bitAnd (byte / 2 ^ k) 1 * (1 * 2 ^ k % 256) ≡ bit byte k * 2 ^ k
-  part-is = ap₂ (λ (a b : ℕ). a * b) (bit-by-mask byte k) weight-is
+  part-is : bitAnd byte (1 * 2 ^ k % 256) ≡ bit byte k * 2 ^ k
+  part-is = ap (bitAnd byte) weight-is ∙ part-by-mask byte k
 
-  pub with-part : (b : Bool) → byte - bitAnd (byte / 2 ^ k) 1 * (1 * 2 ^ k % 256) + oneIf b * 2 ^ k ≡ withBit byte k b
-  unfolding withBit
-  with-part b = ap (λ (n : ℕ). byte - n + oneIf b * 2 ^ k) part-is
+  pub mask-within : bitAnd byte (1 * 2 ^ k % 256) ≤ byte
+  mask-within = omega (arith, part-is, bit-part byte k)
+
+  pub with-one : byte - bitAnd byte (1 * 2 ^ k % 256) + 1 * 2 ^ k % 256 ≡ withBit byte k true
+  unfolding withBit oneIf
+  with-one = omega (arith, part-is, weight-is)
+
+  pub with-none : byte - bitAnd byte (1 * 2 ^ k % 256) ≡ withBit byte k false
+  unfolding withBit oneIf
+  with-none = omega (arith, part-is)
