@@ -22,14 +22,26 @@ length-with-byte-bit bytes i b = length-set bytes (i / 8) _
 
 pub byte-bit-with-same : (bytes : List ℕ) (i : ℕ) (b : Bool) → i / 8 < length bytes → byteBit (withByteBit bytes i b) i ≡ oneIf b
 unfolding byteBit withByteBit
-byte-bit-with-same bytes i b h = rw (getD-set-same bytes (i / 8) (withBit (getD bytes (i / 8) 0) (i % 8) b) 0 h) (bit-with-same (getD bytes (i / 8) 0) (i % 8) b)
+byte-bit-with-same bytes i b h =
+    let byte = getD bytes (i / 8) 0 in
+    rw (getD-set-same bytes (i / 8) (withBit byte (i % 8) b) 0 h) (bit-with-same byte (i % 8) b)
 
 pub byte-bit-with-other : (bytes : List ℕ) (i j : ℕ) (b : Bool) → j ≢ i → byteBit (withByteBit bytes i b) j ≡ byteBit bytes j
 unfolding byteBit withByteBit
-byte-bit-with-other bytes i j b h = elim (ℕ-discrete (j / 8) (i / 8)) [ yes e ↦ there e | no d ↦ ap (λ (m : ℕ). bit m (j % 8)) (getD-set-other bytes (i / 8) (j / 8) (withBit (getD bytes (i / 8) 0) (i % 8) b) 0 d) ]
+byte-bit-with-other bytes i j b h = elim (ℕ-discrete (j / 8) (i / 8)) [ yes e ↦ there e | no d ↦ ap bitJ (getD-set-other bytes (i / 8) (j / 8) new 0 d) ]
   where
-    inside : j / 8 ≡ i / 8 → i / 8 < length bytes → bit (getD (set bytes (i / 8) (withBit (getD bytes (i / 8) 0) (i % 8) b)) (j / 8) 0) (j % 8) ≡ bit (getD bytes (j / 8) 0) (j % 8)
-    inside e l = rw (e, getD-set-same bytes (i / 8) (withBit (getD bytes (i / 8) 0) (i % 8) b) 0 l) (bit-with-other (getD bytes (i / 8) 0) (i % 8) (j % 8) b (λ m. h (omega arith)))
+    new : ℕ
+    new = withBit (getD bytes (i / 8) 0) (i % 8) b
 
-    there : j / 8 ≡ i / 8 → bit (getD (set bytes (i / 8) (withBit (getD bytes (i / 8) 0) (i % 8) b)) (j / 8) 0) (j % 8) ≡ bit (getD bytes (j / 8) 0) (j % 8)
-    there e = elim (decLt (i / 8) (length bytes)) [ yes l ↦ inside e l | no l ↦ ap (λ (bs : List ℕ). bit (getD bs (j / 8) 0) (j % 8)) (set-out bytes (i / 8) (withBit (getD bytes (i / 8) 0) (i % 8) b) (omega arith)) ]
+    bitJ : ℕ → ℕ
+    bitJ byte = bit byte (j % 8)
+
+    inside : j / 8 ≡ i / 8 → i / 8 < length bytes → bitJ (getD (set bytes (i / 8) new) (j / 8) 0) ≡ bitJ (getD bytes (j / 8) 0)
+    inside e l =
+        rw (e, getD-set-same bytes (i / 8) new 0 l) (bit-with-other (getD bytes (i / 8) 0) (i % 8) (j % 8) b (λ m. h (omega arith)))
+
+    stays : length bytes ≤ i / 8 → bitJ (getD (set bytes (i / 8) new) (j / 8) 0) ≡ bitJ (getD bytes (j / 8) 0)
+    stays l = ap (λ (bs : List ℕ). bitJ (getD bs (j / 8) 0)) (set-out bytes (i / 8) new l)
+
+    there : j / 8 ≡ i / 8 → bitJ (getD (set bytes (i / 8) new) (j / 8) 0) ≡ bitJ (getD bytes (j / 8) 0)
+    there e = elim (decLt (i / 8) (length bytes)) [ yes l ↦ inside e l | no l ↦ stays (omega arith) ]
