@@ -49,7 +49,8 @@ pub fn step_lent<'a>(
     reading: Reading,
     control: Control,
 ) -> Stepped
-    ensures { λ r. ⌜ r ≡ stepOf (lent 0 (now (input .entry)) (now (controllable .entry)) (now (latch .entry)) (now (next .entry)) output (now (gate .entry)) (now (left .entry)) (now (right .entry))) state (reading .0) (control .0) ⌝ }
+    ensures { λ r. ⌜ r ≡ stepOf (lent 0 (now (input .entry)) (now (controllable .entry)) (now (latch .entry)) (now (next .entry)) output
+        (now (gate .entry)) (now (left .entry)) (now (right .entry))) state (reading .0) (control .0) ⌝ }
 {
     let mut values = [0u8; BYTES];
     step_in(
@@ -107,7 +108,9 @@ fn step_counted<'a>(
     reading: Reading,
     control: Control,
 ) -> Stepped
-    ensures { λ r. ⌜ r ≡ stepOf (lent 0 (take inputs (now (input .entry))) (now (controllable .entry)) (take latches (now (latch .entry))) (now (next .entry)) output (take gates (now (gate .entry))) (now (left .entry)) (now (right .entry))) state (reading .0) (control .0) ⌝ }
+    ensures { λ r. ⌜ r ≡ stepOf (lent 0 (take inputs (now (input .entry))) (now (controllable .entry))
+        (take latches (now (latch .entry))) (now (next .entry)) output
+        (take gates (now (gate .entry))) (now (left .entry)) (now (right .entry))) state (reading .0) (control .0) ⌝ }
 {
     let i = below::fewer(inputs, input.len());
     let l = below::fewer(latches, latch.len());
@@ -143,7 +146,8 @@ fn step_in<'a>(
 ) -> Stepped
     requires { ⌜ base .variable < 8 * length (now values) ⌝ }
     requires { ⌜ truths (now values) ≡ (λ v. false) ⌝ }
-    ensures { λ r. ⌜ r ≡ stepOf (lent 0 (now (input .entry)) (now (controllable .entry)) (now (latch .entry)) (now (next .entry)) output (now (gate .entry)) (now (left .entry)) (now (right .entry))) state (reading .0) (control .0) ⌝ }
+    ensures { λ r. ⌜ r ≡ stepOf (lent 0 (now (input .entry)) (now (controllable .entry)) (now (latch .entry)) (now (next .entry)) output
+        (now (gate .entry)) (now (left .entry)) (now (right .entry))) state (reading .0) (control .0) ⌝ }
 {
     put_inputs(values, input, controllable, reading.0, control.0);
     put_latches(values, latch, next, state);
@@ -164,7 +168,8 @@ fn put_inputs<'a>(
     control: u8,
 )
     requires { ⌜ base .variable < 8 * length (now values) ⌝ }
-    ensures { λ _. ⌜ truths (now (values .exit)) ≡ withInputs (inputsOf (now (input .entry)) (now (controllable .entry))) reading control (truths (now (values .entry))) ⌝ }
+    ensures { λ _. ⌜ truths (now (values .exit))
+        ≡ withInputs (inputsOf (now (input .entry)) (now (controllable .entry))) reading control (truths (now (values .entry))) ⌝ }
 {
     let mut r = reading;
     let mut k = control;
@@ -211,7 +216,8 @@ fn put_latches<'a>(values: &mut [u8], latch: &'a [u16], next: &'a [u16], state: 
 
 fn put_gates<'a>(values: &mut [u8], gate: &'a [u16], left: &'a [u16], right: &'a [u16])
     requires { ⌜ base .variable < 8 * length (now values) ⌝ }
-    ensures { λ _. ⌜ truths (now (values .exit)) ≡ withGates (gatesOf (now (gate .entry)) (now (left .entry)) (now (right .entry))) (truths (now (values .entry))) ⌝ }
+    ensures { λ _. ⌜ truths (now (values .exit))
+        ≡ withGates (gatesOf (now (gate .entry)) (now (left .entry)) (now (right .entry))) (truths (now (values .entry))) ⌝ }
 {
     let mut i = 0;
     while i < gate.len() {
@@ -222,7 +228,8 @@ fn put_gates<'a>(values: &mut [u8], gate: &'a [u16], left: &'a [u16], right: &'a
 }
 
 fn gate_value<'a>(values: &[u8], left: &'a [u16], right: &'a [u16], i: usize) -> bool
-    ensures { λ r. ⌜ r ≡ (literalValue (truths (now (values .entry))) (literalOf (getD (now (left .entry)) i 0)) && literalValue (truths (now (values .entry))) (literalOf (getD (now (right .entry)) i 0))) ⌝ }
+    ensures { λ r. ⌜ r ≡ (literalValue (truths (now (values .entry))) (literalOf (getD (now (left .entry)) i 0))
+        && literalValue (truths (now (values .entry))) (literalOf (getD (now (right .entry)) i 0))) ⌝ }
 {
     if literal_value(values, literal_at(left, i)) {
         literal_value(values, literal_at(right, i))

@@ -4,6 +4,7 @@ use native.Mathlib.Omega.{arith}
 use native.Mathlib.Nat.{div-one, mul-comm, pow-suc, div-div-eq-div-mul, div-eq-of-lt, mod-eq-of-lt, pow-zero}
 use native.Mathlib.Nat.{not-suc-le-zero, le-of-suc-le-suc, mul-one, one-mul, zero-div, zero-mod, mod-mod, mod-one}
 use lib.Arith.{mod-mul}
+use lib.Dec.{eqb}
 use lib.Pow.{pow-pos, pow-lt}
 use lib.Bits.{bitAnd, and-mask, and-step, and-zero-r}
 use mathlib.Core.Bool.{Bool, true, false}
@@ -68,6 +69,11 @@ pub one-if-below : (b : Bool) → oneIf b < 2
 unfolding oneIf
 one-if-below true = omega arith
 one-if-below false = omega arith
+
+pub is-one : (b : Bool) → eqb (oneIf b) 1 ≡ b
+unfolding oneIf
+is-one true = refl
+is-one false = refl
 
 with-bit-zero : (n : ℕ) (b : Bool) → withBit n 0 b ≡ n / 2 * 2 + oneIf b
 unfolding withBit bit

@@ -15,13 +15,8 @@ use Rattle.bits.specs.Bit.{bit, oneIf}
 use Rattle.bits.specs.BitBytes.{bitByte, bitBytes, unusedBit}
 use Rattle.bits.specs.ByteBit.{byteBit}
 use Rattle.bits.specs.Digits.{sum}
-use Rattle.bits.proofs.laws.Bit.{bit-sum, one-if-below}
+use Rattle.bits.proofs.laws.Bit.{bit-sum, is-one, one-if-below}
 use Rattle.bits.proofs.laws.Digits.{all-below-of}
-
-is-one : (b : Bool) → eqb (oneIf b) 1 ≡ b
-unfolding oneIf
-is-one true = refl
-is-one false = refl
 
 module _ (f : ℕ → Bool) (n : ℕ) where
   bitAt : ℕ → ℕ

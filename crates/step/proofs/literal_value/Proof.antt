@@ -24,11 +24,17 @@ is-odd-requires-2 c κs = search needs
 
 returns-2 : tie.Need-returns-2
 unfolding truths
-returns-2 c = let a = c .before .before .before .before .before .args in ap not (c .before .before .byte-bit .ensures) ∙ sym (value-inverted (truths (a .values .now)) (a .l) (search needs) (sym (c .before .is-odd2 .ensures) ∙ c .if2 .taken))
+returns-2 c =
+    let a = c .before .before .before .before .before .args in
+    let odd = sym (c .before .is-odd2 .ensures) ∙ c .if2 .taken in
+    ap not (c .before .before .byte-bit .ensures) ∙ sym (value-inverted (truths (a .values .now)) (a .l) (search needs) odd)
 
 returns-3 : tie.Need-returns-3
 unfolding truths
-returns-3 c = let a = c .before .before .before .before .before .args in c .before .before .byte-bit .ensures ∙ sym (value-plain (truths (a .values .now)) (a .l) (search needs) (sym (c .before .is-odd2 .ensures) ∙ c .if2 .left))
+returns-3 c =
+    let a = c .before .before .before .before .before .args in
+    let even = sym (c .before .is-odd2 .ensures) ∙ c .if2 .left in
+    c .before .before .byte-bit .ensures ∙ sym (value-plain (truths (a .values .now)) (a .l) (search needs) even)
 
 pub literal-value-spec : {M : Type 1} → statement M
 literal-value-spec =

@@ -1,6 +1,5 @@
 -- `step::put_at` meets its contract: the variable of a literal is one of a circuit's, so its bit is there.
 use native.Mathlib.Omega.{arith}
-use mathlib.Core.Path.{_∙_}
 use lib.ListN.{getD}
 use borrow.Author.Needs.{needs}
 use Rattle.circuit.specs.Literal.{variable}
@@ -26,8 +25,9 @@ returns : tie.Need-returns
 unfolding variable
 returns c =
     let a = c .before .before .before .before .before .before .before .args in
-    let l = literalOf (getD (a .literals .now) (a .i) 0) in
-    rw (c .before .before .put-bit .ensures, c .before .before .before .before .literal-at .ensures) (put-bit (a .values .now) (variable l) (a .b) (omega (arith, variable-within (getD (a .literals .now) (a .i) 0))))
+    let n = getD (a .literals .now) (a .i) 0 in
+    let here = put-bit (a .values .now) (variable (literalOf n)) (a .b) (omega (arith, variable-within n)) in
+    rw (c .before .before .put-bit .ensures, c .before .before .before .before .literal-at .ensures) here
 
 pub put-at-spec : {M : Type 1} → statement M
 put-at-spec =
