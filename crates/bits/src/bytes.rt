@@ -1,4 +1,4 @@
-// Bytes compared, a byte that may not be there, the lowest bits of a number.
+// Bytes compared, a byte that may not be there, a bit of bytes read and put, the lowest bits of a number.
 ghost use mathlib.Core.Path.{_≡_};
 ghost use Prim.Native.Nat.{_%_, _^_, _<_};
 ghost use lib.Dec.{eqb};
