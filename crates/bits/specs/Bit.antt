@@ -6,14 +6,14 @@ use lib.Dec.{eqb}
 unfoldable pub bit : ℕ → ℕ → ℕ
 bit n k = n / 2 ^ k % 2
 
--- n with bit k set to 1
-unfoldable pub withBit : ℕ → ℕ → ℕ
-unfolding bit
-withBit n k = n + (1 - bit n k) * 2 ^ k
-
 -- a bit as a truth, and a truth as a bit
 unfoldable pub odd : ℕ → Bool
 odd n = eqb (n % 2) 1
 
 unfoldable pub oneIf : Bool → ℕ
 oneIf b = cond b 1 0
+
+-- n with another bit k
+unfoldable pub withBit : ℕ → ℕ → Bool → ℕ
+unfolding bit
+withBit n k b = n - bit n k * 2 ^ k + oneIf b * 2 ^ k

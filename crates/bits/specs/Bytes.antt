@@ -1,5 +1,5 @@
--- Bytes as a text says them, and lists of bytes compared: the same, and one the start of the other (01, "The file": a name starts with 13 bytes; "The numbers", 12).
--- Assumes nothing.
+-- Bytes as a text says them, and lists of bytes compared: the same, and one the start of the other (01, "The file": a name starts with 13
+-- bytes; "The numbers", 12). Assumes nothing.
 use Prim.Native.Nat.{ℕ}
 use Prim.Native.Char.{code}
 use Prim.Native.String.{_∷_ as cons, [] as nil}

@@ -1,9 +1,10 @@
-// Bytes compared, a byte that may not be there, the lowest bits of a number.
+// Bytes compared, a byte that may not be there, a bit of bytes read and put, the lowest bits of a number.
 ghost use mathlib.Core.Path.{_≡_};
-ghost use Prim.Native.Nat.{_%_, _^_};
+ghost use Prim.Native.Nat.{_%_, _^_, _<_};
 ghost use lib.Dec.{eqb};
 ghost use lib.ListN.{getD};
-ghost use Rattle.bits.specs.ByteBit.{byteBit};
+ghost use Rattle.bits.specs.Bit.{withBit};
+ghost use Rattle.bits.specs.ByteBit.{byteBit, withByteBit};
 ghost use Rattle.bits.specs.Bytes.{sameBytes};
 
 // The byte at a place; bytes that aren't there count as 0.
@@ -19,6 +20,27 @@ pub fn byte_bit(bytes: &[u8], at: usize) -> bool
 {
     let byte = byte_at(bytes, at / 8);
     (byte >> (at % 8)) & 1 == 1
+}
+
+// Puts a truth at a bit of bytes; a bit that isn't there stays.
+pub fn put_bit(bytes: &mut [u8], at: usize, b: bool)
+    ensures { λ _. ⌜ now (bytes .exit) ≡ withByteBit (now (bytes .entry)) at b ⌝ }
+{
+    let i = at / 8;
+    if i < bytes.len() {
+        let byte = bytes[i];
+        bytes[i] = with_bit(byte, at % 8, b);
+    }
+}
+
+// The byte with another truth at one of its bits.
+fn with_bit(byte: u8, k: usize, b: bool) -> u8
+    requires { ⌜ k < 8 ⌝ }
+    ensures { λ r. ⌜ r ≡ withBit byte k b ⌝ }
+{
+    let weight = 1 << k;
+    let without = byte - (byte & weight);
+    if b { without + weight } else { without }
 }
 
 // The lowest so many bits of a number; all of them where it has no more.

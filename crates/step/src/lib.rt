@@ -1,10 +1,12 @@
 // The step of a circuit (01, "The game").
+use bits::bytes::byte_bit;
+use bits::bytes::put_bit;
 use circuit::Circuit;
 use circuit::stored::is_controllable;
 use circuit::stored::latches_of;
 use circuit::stored::literal;
 use circuit::stored::literal_at;
-ghost use Prim.Native.Nat.{_<_, _/_, min};
+ghost use Prim.Native.Nat.{_<_, _*_, _/_, min};
 ghost use mathlib.Core.Bool.{cond, false, not, _&&_};
 ghost use mathlib.Core.Path.{_≡_};
 ghost use lib.Dec.{eqb};
@@ -29,6 +31,9 @@ pub struct Stepped {
     pub next: u16,
 }
 
+// A bit for each variable, eight to the byte.
+const BYTES: usize = (Circuit::VALUES + 7) / 8;
+
 // A step over lent arrays: bits of state, reading and control above the circuit's counts aren't read. Solver and checker call this;
 // it alone takes a reading and a control apart.
 pub fn step_lent<'a>(
@@ -44,9 +49,10 @@ pub fn step_lent<'a>(
     reading: Reading,
     control: Control,
 ) -> Stepped
-    ensures { λ r. ⌜ r ≡ stepOf (lent 0 (now (input .entry)) (now (controllable .entry)) (now (latch .entry)) (now (next .entry)) output (now (gate .entry)) (now (left .entry)) (now (right .entry))) state (reading .0) (control .0) ⌝ }
+    ensures { λ r. ⌜ r ≡ stepOf (lent 0 (now (input .entry)) (now (controllable .entry)) (now (latch .entry)) (now (next .entry)) output
+        (now (gate .entry)) (now (left .entry)) (now (right .entry))) state (reading .0) (control .0) ⌝ }
 {
-    let mut values = [0u8; Circuit::VALUES];
+    let mut values = [0u8; BYTES];
     step_in(
         &mut values,
         input,
@@ -102,7 +108,9 @@ fn step_counted<'a>(
     reading: Reading,
     control: Control,
 ) -> Stepped
-    ensures { λ r. ⌜ r ≡ stepOf (lent 0 (take inputs (now (input .entry))) (now (controllable .entry)) (take latches (now (latch .entry))) (now (next .entry)) output (take gates (now (gate .entry))) (now (left .entry)) (now (right .entry))) state (reading .0) (control .0) ⌝ }
+    ensures { λ r. ⌜ r ≡ stepOf (lent 0 (take inputs (now (input .entry))) (now (controllable .entry))
+        (take latches (now (latch .entry))) (now (next .entry)) output
+        (take gates (now (gate .entry))) (now (left .entry)) (now (right .entry))) state (reading .0) (control .0) ⌝ }
 {
     let i = below::fewer(inputs, input.len());
     let l = below::fewer(latches, latch.len());
@@ -136,9 +144,10 @@ fn step_in<'a>(
     reading: Reading,
     control: Control,
 ) -> Stepped
-    requires { ⌜ base .variable < length (now values) ⌝ }
+    requires { ⌜ base .variable < 8 * length (now values) ⌝ }
     requires { ⌜ truths (now values) ≡ (λ v. false) ⌝ }
-    ensures { λ r. ⌜ r ≡ stepOf (lent 0 (now (input .entry)) (now (controllable .entry)) (now (latch .entry)) (now (next .entry)) output (now (gate .entry)) (now (left .entry)) (now (right .entry))) state (reading .0) (control .0) ⌝ }
+    ensures { λ r. ⌜ r ≡ stepOf (lent 0 (now (input .entry)) (now (controllable .entry)) (now (latch .entry)) (now (next .entry)) output
+        (now (gate .entry)) (now (left .entry)) (now (right .entry))) state (reading .0) (control .0) ⌝ }
 {
     put_inputs(values, input, controllable, reading.0, control.0);
     put_latches(values, latch, next, state);
@@ -158,8 +167,9 @@ fn put_inputs<'a>(
     reading: u8,
     control: u8,
 )
-    requires { ⌜ base .variable < length (now values) ⌝ }
-    ensures { λ _. ⌜ truths (now (values .exit)) ≡ withInputs (inputsOf (now (input .entry)) (now (controllable .entry))) reading control (truths (now (values .entry))) ⌝ }
+    requires { ⌜ base .variable < 8 * length (now values) ⌝ }
+    ensures { λ _. ⌜ truths (now (values .exit))
+        ≡ withInputs (inputsOf (now (input .entry)) (now (controllable .entry))) reading control (truths (now (values .entry))) ⌝ }
 {
     let mut r = reading;
     let mut k = control;
@@ -191,7 +201,7 @@ fn halved_if(b: bool, n: u8) -> u8
 }
 
 fn put_latches<'a>(values: &mut [u8], latch: &'a [u16], next: &'a [u16], state: u16)
-    requires { ⌜ base .variable < length (now values) ⌝ }
+    requires { ⌜ base .variable < 8 * length (now values) ⌝ }
     ensures { λ _. ⌜ truths (now (values .exit)) ≡ withLatches (latchesOf (now (latch .entry)) (now (next .entry))) state (truths (now (values .entry))) ⌝ }
 {
     let n = latches_of(latch.len());
@@ -205,8 +215,9 @@ fn put_latches<'a>(values: &mut [u8], latch: &'a [u16], next: &'a [u16], state: 
 }
 
 fn put_gates<'a>(values: &mut [u8], gate: &'a [u16], left: &'a [u16], right: &'a [u16])
-    requires { ⌜ base .variable < length (now values) ⌝ }
-    ensures { λ _. ⌜ truths (now (values .exit)) ≡ withGates (gatesOf (now (gate .entry)) (now (left .entry)) (now (right .entry))) (truths (now (values .entry))) ⌝ }
+    requires { ⌜ base .variable < 8 * length (now values) ⌝ }
+    ensures { λ _. ⌜ truths (now (values .exit))
+        ≡ withGates (gatesOf (now (gate .entry)) (now (left .entry)) (now (right .entry))) (truths (now (values .entry))) ⌝ }
 {
     let mut i = 0;
     while i < gate.len() {
@@ -217,7 +228,8 @@ fn put_gates<'a>(values: &mut [u8], gate: &'a [u16], left: &'a [u16], right: &'a
 }
 
 fn gate_value<'a>(values: &[u8], left: &'a [u16], right: &'a [u16], i: usize) -> bool
-    ensures { λ r. ⌜ r ≡ (literalValue (truths (now (values .entry))) (literalOf (getD (now (left .entry)) i 0)) && literalValue (truths (now (values .entry))) (literalOf (getD (now (right .entry)) i 0))) ⌝ }
+    ensures { λ r. ⌜ r ≡ (literalValue (truths (now (values .entry))) (literalOf (getD (now (left .entry)) i 0))
+        && literalValue (truths (now (values .entry))) (literalOf (getD (now (right .entry)) i 0))) ⌝ }
 {
     if literal_value(values, literal_at(left, i)) {
         literal_value(values, literal_at(right, i))
@@ -228,12 +240,11 @@ fn gate_value<'a>(values: &[u8], left: &'a [u16], right: &'a [u16], i: usize) ->
 
 // Puts a truth at the variable of literal i of a list.
 fn put_at(values: &mut [u8], literals: &[u16], i: usize, b: bool)
-    requires { ⌜ base .variable < length (now values) ⌝ }
+    requires { ⌜ base .variable < 8 * length (now values) ⌝ }
     ensures { λ _. ⌜ truths (now (values .exit)) ≡ put (variable (literalOf (getD (now (literals .entry)) i 0))) b (truths (now (values .entry))) ⌝ }
 {
     let l = literal_at(literals, i);
-    let v = (l / 2) as usize;
-    values[v] = one_if(b);
+    put_bit(values, (l / 2) as usize, b);
 }
 
 fn next_state<'a>(values: &[u8], latch: &'a [u16], next: &'a [u16]) -> u16
@@ -255,18 +266,8 @@ fn literal_value(values: &[u8], l: u16) -> bool
     if l < 2 {
         return is_odd(l);
     }
-    let t = truth_at(values, (l / 2) as usize);
+    let t = byte_bit(values, (l / 2) as usize);
     if is_odd(l) { !t } else { t }
-}
-
-fn truth_at(values: &[u8], v: usize) -> bool
-    ensures { λ r. ⌜ r ≡ truths (now (values .entry)) v ⌝ }
-{
-    if v < values.len() {
-        values[v] == 1
-    } else {
-        false
-    }
 }
 
 fn is_odd(n: u16) -> bool

@@ -15,18 +15,8 @@ use Rattle.bits.specs.Bit.{bit, oneIf}
 use Rattle.bits.specs.BitBytes.{bitByte, bitBytes, unusedBit}
 use Rattle.bits.specs.ByteBit.{byteBit}
 use Rattle.bits.specs.Digits.{sum}
-use Rattle.bits.proofs.laws.Bit.{bit-sum}
+use Rattle.bits.proofs.laws.Bit.{bit-sum, is-one, one-if-below}
 use Rattle.bits.proofs.laws.Digits.{all-below-of}
-
-one-if-below : (b : Bool) → oneIf b < 2
-unfolding oneIf
-one-if-below true = omega arith
-one-if-below false = omega arith
-
-is-one : (b : Bool) → eqb (oneIf b) 1 ≡ b
-unfolding oneIf
-is-one true = refl
-is-one false = refl
 
 module _ (f : ℕ → Bool) (n : ℕ) where
   bitAt : ℕ → ℕ
@@ -49,7 +39,9 @@ module _ (f : ℕ → Bool) (n : ℕ) where
       eight j = table (λ k. bitAt (8 * j + k)) 8
 
       below : (k : ℕ) → k < length (eight (i / 8)) → getD (eight (i / 8)) k 0 < 2
-      below k l = subst (λ (m : ℕ). m < 2) (sym (getD-table (λ k. bitAt (8 * (i / 8) + k)) 8 k 0 (omega (arith, length-table (λ k. bitAt (8 * (i / 8) + k)) 8)))) (one-if-below (ltb (8 * (i / 8) + k) n && f (8 * (i / 8) + k)))
+      below k l =
+          let eighth = getD-table (λ k. bitAt (8 * (i / 8) + k)) 8 k 0 (omega (arith, length-table (λ k. bitAt (8 * (i / 8) + k)) 8)) in
+          subst (λ (m : ℕ). m < 2) (sym eighth) (one-if-below (ltb (8 * (i / 8) + k) n && f (8 * (i / 8) + k)))
 
   -- bit i is what the function says
   pub bit-is : (i : ℕ) → i < n → eqb (byteBit (bitBytes f n) i) 1 ≡ f i
@@ -57,22 +49,33 @@ module _ (f : ℕ → Bool) (n : ℕ) where
 
   pub no-unused-bit : unusedBit (bitBytes f n) n ≡ false
   unfolding unusedBit oneIf
-  no-unused-bit = none-any (λ i. leb n i && eqb (byteBit (bitBytes f n) i) 1) (8 * length (bitBytes f n)) (λ i h. elim (decLt i n) [ yes a ↦ ap (λ (b : Bool). b && eqb (byteBit (bitBytes f n) i) 1) (lt-leb n i a) | no a ↦ past i (omega arith) (omega (arith, length-bit-bytes)) ])
+  no-unused-bit = none-any (λ i. leb n i && eqb (byteBit (bitBytes f n) i) 1) (8 * length (bitBytes f n)) each
     where
+      used : (i : ℕ) → i < n → (leb n i && eqb (byteBit (bitBytes f n) i) 1) ≡ false
+      used i a = ap (λ (b : Bool). b && eqb (byteBit (bitBytes f n) i) 1) (lt-leb n i a)
+
       both : (a b : Bool) → b ≡ false → (a && b) ≡ false
       both true b e = e
       both false b e = refl
 
       past : (i : ℕ) → n ≤ i → i < 8 * ((n + 7) / 8) → (leb n i && eqb (byteBit (bitBytes f n) i) 1) ≡ false
-      past i a l = both (leb n i) (eqb (byteBit (bitBytes f n) i) 1) (ap (λ (m : ℕ). eqb m 1) (bit-of-bytes i l ∙ ap (λ (b : Bool). oneIf (b && f i)) (le-ltb i n a)))
+      past i a l =
+          let none = bit-of-bytes i l ∙ ap (λ (b : Bool). oneIf (b && f i)) (le-ltb i n a) in
+          both (leb n i) (eqb (byteBit (bitBytes f n) i) 1) (ap (λ (m : ℕ). eqb m 1) none)
+
+      each : (i : ℕ) → i < 8 * length (bitBytes f n) → (leb n i && eqb (byteBit (bitBytes f n) i) 1) ≡ false
+      each i h = elim (decLt i n) [ yes a ↦ used i a | no a ↦ past i (omega arith) (omega (arith, length-bit-bytes)) ]
 
 module _ (f g : ℕ → Bool) (n : ℕ) (same : (i : ℕ) → i < n → f i ≡ g i) where
   pub bit-byte-same : (j : ℕ) → bitByte f n j ≡ bitByte g n j
   unfolding bitByte
-  bit-byte-same j = ap (sum 2) (table-same _ _ 8 (λ k h. ap oneIf (elim (decLt (8 * j + k) n) [ yes l ↦ ap (λ (b : Bool). ltb (8 * j + k) n && b) (same (8 * j + k) l) | no l ↦ none (8 * j + k) (omega arith) ])))
+  bit-byte-same j = ap (sum 2) (table-same _ _ 8 (λ k h. ap oneIf (at (8 * j + k))))
     where
       none : (i : ℕ) → n ≤ i → (ltb i n && f i) ≡ (ltb i n && g i)
       none i l = rw (le-ltb i n l)
+
+      at : (i : ℕ) → (ltb i n && f i) ≡ (ltb i n && g i)
+      at i = elim (decLt i n) [ yes l ↦ ap (λ (b : Bool). ltb i n && b) (same i l) | no l ↦ none i (omega arith) ]
 
   pub bit-bytes-same : bitBytes f n ≡ bitBytes g n
   unfolding bitBytes

@@ -1,7 +1,9 @@
 -- What holds of the digits of a number and of the sum of digits, in every base and at every width. Assumes nothing.
 use Prim.Native.Nat.{ℕ, zero, suc, _+_, _*_, _/_, _%_, _^_, _<_, _≤_}
 use native.Mathlib.Omega.{arith}
-use native.Mathlib.Nat.{not-suc-le-zero, le-of-suc-le-suc, pow-zero, pow-suc, mod-one, mod-lt, div-one, mul-comm, add-comm, div-div-eq-div-mul, mul-pos, one-le-pow, add-mul-div-left, add-mul-mod-self-left, mod-eq-of-lt, div-eq-of-lt, mul-le-mul-left}
+use native.Mathlib.Nat.{not-suc-le-zero, le-of-suc-le-suc, pow-zero, pow-suc, mod-one, mod-lt, div-one, mul-comm, add-comm}
+use native.Mathlib.Nat.{div-div-eq-div-mul, mul-pos, one-le-pow, add-mul-div-left, add-mul-mod-self-left, mod-eq-of-lt, div-eq-of-lt}
+use native.Mathlib.Nat.{mul-le-mul-left}
 use lib.Arith.{mod-mul, digits-lt, digits-div, digits-mod}
 use mathlib.Core.List.{List, [], _∷_}
 use mathlib.Core.Path.{_≡_, refl, sym, ap, ap₂, _∙_, subst}

@@ -26,6 +26,7 @@ pub wrote-none : (f : ℕ → List ℕ) (at : ℕ) (buffer : List ℕ) → Wrote
 unfolding inTurn
 wrote-none f at buffer = wrote-nothing at buffer
 
-pub wrote-turn : (f : ℕ → List ℕ) (i : ℕ) {at mid next : ℕ} {before between after : List ℕ} → Wrote (inTurn f i) at before between mid → Wrote (f i) mid between after next → Wrote (inTurn f (i + 1)) at before after next
+pub wrote-turn : (f : ℕ → List ℕ) (i : ℕ) {at mid next : ℕ} {before between after : List ℕ}
+    → Wrote (inTurn f i) at before between mid → Wrote (f i) mid between after next → Wrote (inTurn f (i + 1)) at before after next
 unfolding inTurn
 wrote-turn f i w v = rw add-one (wrote-both w v)

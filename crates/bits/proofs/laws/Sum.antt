@@ -23,11 +23,13 @@ sum-two b ds at h = ap (λ (l : List ℕ). sum b (take 2 l)) cells ∙ rw add-on
     cells = drop-cons ds at 0 (omega arith) ∙ ap (λ (l : List ℕ). getD ds at 0 ∷ l) (drop-cons ds (suc at) 0 (omega arith))
 
 -- four digits at a place are two and two
-pub sum-four : (ds : List ℕ) (at : ℕ) → at + 4 ≤ length ds → sum 256 (take 4 (drop at ds)) ≡ sum 256 (take 2 (drop at ds)) + 65536 * sum 256 (take 2 (drop (at + 2) ds))
+pub sum-four : (ds : List ℕ) (at : ℕ) → at + 4 ≤ length ds
+    → sum 256 (take 4 (drop at ds)) ≡ sum 256 (take 2 (drop at ds)) + 65536 * sum 256 (take 2 (drop (at + 2) ds))
 sum-four ds at h = ap (sum 256) (take-add 2 2 (drop at ds)) ∙ sum-append 256 (take 2 (drop at ds)) (take 2 (drop 2 (drop at ds))) ∙ tail
   where
     two : length (take 2 (drop at ds)) ≡ 2
     two = length-take-le 2 (drop at ds) (omega (arith, length-drop at ds))
 
-    tail : sum 256 (take 2 (drop at ds)) + 256 ^ length (take 2 (drop at ds)) * sum 256 (take 2 (drop 2 (drop at ds))) ≡ sum 256 (take 2 (drop at ds)) + 65536 * sum 256 (take 2 (drop (at + 2) ds))
+    tail : sum 256 (take 2 (drop at ds)) + 256 ^ length (take 2 (drop at ds)) * sum 256 (take 2 (drop 2 (drop at ds)))
+        ≡ sum 256 (take 2 (drop at ds)) + 65536 * sum 256 (take 2 (drop (at + 2) ds))
     tail = rw (two, drop-drop)

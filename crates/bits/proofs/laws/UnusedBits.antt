@@ -29,8 +29,18 @@ module _ (bytes : List ℕ) (n i : ℕ) where
 
   pub unused-found : Unused bytes n i → i < 8 * length bytes → eqb (byteBit bytes i) 1 ≡ true → true ≡ unusedBit bytes n
   unfolding unusedBit
-  unused-found w h e = sym (any-of (λ j. leb (n) j && eqb (byteBit bytes j) 1) (8 * length bytes) i h (ap₂ (λ (a b : Bool). a && b) (le-leb (n) i (w .from)) e))
+  unused-found w h e =
+      sym (any-of (λ j. leb n j && eqb (byteBit bytes j) 1) (8 * length bytes) i h (ap₂ (λ (a b : Bool). a && b) (le-leb n i (w .from)) e))
 
   pub unused-end : Unused bytes n i → 8 * length bytes ≤ i → false ≡ unusedBit bytes n
   unfolding unusedBit
-  unused-end w h = sym (none-any (λ j. leb (n) j && eqb (byteBit bytes j) 1) (8 * length bytes) (λ j l. elim (decLt j (n)) [ yes a ↦ ap (λ (b : Bool). b && eqb (byteBit bytes j) 1) (lt-leb (n) j a) | no a ↦ ap₂ (λ (b d : Bool). b && d) (le-leb (n) j (omega arith)) (w .none j (omega arith) (omega arith)) ]))
+  unused-end w h = sym (none-any (λ j. leb n j && eqb (byteBit bytes j) 1) (8 * length bytes) each)
+    where
+      used : (j : ℕ) → j < n → (leb n j && eqb (byteBit bytes j) 1) ≡ false
+      used j a = ap (λ (b : Bool). b && eqb (byteBit bytes j) 1) (lt-leb n j a)
+
+      past : (j : ℕ) → j < 8 * length bytes → n ≤ j → (leb n j && eqb (byteBit bytes j) 1) ≡ false
+      past j l a = ap₂ (λ (b d : Bool). b && d) (le-leb n j a) (w .none j a (omega arith))
+
+      each : (j : ℕ) → j < 8 * length bytes → (leb n j && eqb (byteBit bytes j) 1) ≡ false
+      each j l = elim (decLt j n) [ yes a ↦ used j a | no a ↦ past j l (omega arith) ]

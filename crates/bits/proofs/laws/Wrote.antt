@@ -36,11 +36,15 @@ pub wrote-nothing : (at : ℕ) (buffer : List ℕ) → Wrote [] at buffer buffer
 wrote-nothing at buffer = record { answer = omega arith; long = refl; stand = λ h. refl }
 
 pub length-put : (buffer : List ℕ) (at : ℕ) (bytes : List ℕ) → length (putAt buffer at bytes) ≡ length buffer
-length-put buffer at bytes = elim (decLe (at + length bytes) (length buffer)) [ yes h ↦ ap length (put-fits buffer at bytes h) ∙ length-sets buffer at bytes | no h ↦ ap length (put-refused buffer at bytes (omega arith)) ]
+length-put buffer at bytes = elim (decLe (at + length bytes) (length buffer)) [ yes h ↦ fits h | no h ↦ ap length (put-refused buffer at bytes (omega arith)) ]
+  where
+    fits : at + length bytes ≤ length buffer → length (putAt buffer at bytes) ≡ length buffer
+    fits h = ap length (put-fits buffer at bytes h) ∙ length-sets buffer at bytes
 
 -- what puts bytes at a place
 pub wrote-put : {bytes before after : List ℕ} {at next : ℕ} → next ≡ at + length bytes → after ≡ putAt before at bytes → Wrote bytes at before after next
-wrote-put {bytes} {before} {after} {at} n e = record { answer = n; long = ap length e ∙ length-put before at bytes; stand = λ h. e ∙ put-fits before at bytes h }
+wrote-put {bytes} {before} {after} {at} n e =
+    record { answer = n; long = ap length e ∙ length-put before at bytes; stand = λ h. e ∙ put-fits before at bytes h }
 
 -- one byte: where it fits it is stored, and else the buffer stays
 pub wrote-byte : (b at : ℕ) (buffer : List ℕ) → Wrote (b ∷ []) at buffer (set buffer at b) (at + 1)
@@ -50,7 +54,8 @@ pub wrote-past : (b at : ℕ) (buffer : List ℕ) → length buffer ≤ at → W
 wrote-past b at buffer h = record { answer = refl; long = refl; stand = λ f. absurd (omega arith) }
 
 -- a text and then another
-pub wrote-both : {xs ys : List ℕ} {at mid next : ℕ} {before between after : List ℕ} → Wrote xs at before between mid → Wrote ys mid between after next → Wrote (xs ++ ys) at before after next
+pub wrote-both : {xs ys : List ℕ} {at mid next : ℕ} {before between after : List ℕ}
+    → Wrote xs at before between mid → Wrote ys mid between after next → Wrote (xs ++ ys) at before after next
 wrote-both {xs} {ys} {at} {mid} {next} {before} {between} {after} w v =
     record {
       answer = omega (arith, w .answer, v .answer, length-append xs ys);
@@ -59,4 +64,8 @@ wrote-both {xs} {ys} {at} {mid} {next} {before} {between} {after} w v =
     }
   where
     both : at + length xs ≤ length before → mid + length ys ≤ length between → after ≡ sets before at (xs ++ ys)
-    both f g = v .stand g ∙ ap (λ (l : List ℕ). sets l mid ys) (w .stand f) ∙ ap (λ (k : ℕ). sets (sets before at xs) k ys) (w .answer) ∙ sym (sets-append before at xs ys)
+    both f g =
+        v .stand g
+        ∙ ap (λ (l : List ℕ). sets l mid ys) (w .stand f)
+        ∙ ap (λ (k : ℕ). sets (sets before at xs) k ys) (w .answer)
+        ∙ sym (sets-append before at xs ys)

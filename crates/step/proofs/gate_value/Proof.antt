@@ -24,13 +24,16 @@ literal-value-requires-2 c κs = search needs
 returns : tie.Need-returns
 returns c = let a = c .before .before .before .before .before .before .before .before .args in
     let val = literalValue (truths (a .values .now)) in
-    let left : val (literalOf (getD (a .left .now) (a .i) 0)) ≡ true = sym (c .before .before .before .literal-value .ensures ∙ ap val (c .before .before .before .before .literal-at .ensures)) ∙ c .before .before .if1 .taken in
+    let first = c .before .before .before in
+    let is = first .literal-value .ensures ∙ ap val (first .before .literal-at .ensures) in
+    let left : val (literalOf (getD (a .left .now) (a .i) 0)) ≡ true = sym is ∙ c .before .before .if1 .taken in
     rw left (c .literal-value2 .ensures ∙ ap val (c .before .literal-at2 .ensures))
 
 returns-2 : tie.Need-returns-2
 returns-2 c = let a = c .before .before .before .before .before .before .args in
     let val = literalValue (truths (a .values .now)) in
-    let left : val (literalOf (getD (a .left .now) (a .i) 0)) ≡ false = sym (c .before .literal-value .ensures ∙ ap val (c .before .before .literal-at .ensures)) ∙ c .if1 .left in
+    let is = c .before .literal-value .ensures ∙ ap val (c .before .before .literal-at .ensures) in
+    let left : val (literalOf (getD (a .left .now) (a .i) 0)) ≡ false = sym is ∙ c .if1 .left in
     rw left
 
 pub gate-value-spec : {M : Type 1} → statement M

@@ -36,24 +36,37 @@ pub record Putting (n i : ℕ) (before values : List ℕ) (whole rest : Valuatio
   pub long : length values ≡ length before
   pub left : whole ≡ rest
 
-pub put-one : (n i : ℕ) (before values after : List ℕ) (whole rest more : Valuation) → Putting n i before values whole rest → i < n → length after ≡ length values → rest ≡ more → Putting n (i + 1) before after whole more
+pub put-one : (n i : ℕ) (before values after : List ℕ) (whole rest more : Valuation) → Putting n i before values whole rest → i < n
+    → length after ≡ length values → rest ≡ more → Putting n (i + 1) before after whole more
 put-one n i before values after whole rest more p h l e = record { within = omega arith; long = l ∙ p .long; left = p .left ∙ e }
 
 module _ (input controllable : List ℕ) where
   inputAt : ℕ → Input
   inputAt i = record { own = literalOf (getD input i 0); controllable = not (eqb (getD controllable i 0) 0) }
 
-  input-put : (x : Input) (xs : List Input) (r k : ℕ) (val : Valuation) → withInputs (x ∷ xs) r k val ≡ withInputs xs (cond (not (x .controllable)) (r / 2) r) (cond (x .controllable) (k / 2) k) (put (variable (x .own)) (cond (x .controllable) (odd k) (odd r)) val)
+  input-put : (x : Input) (xs : List Input) (r k : ℕ) (val : Valuation)
+      → withInputs (x ∷ xs) r k val
+      ≡ withInputs xs (cond (not (x .controllable)) (r / 2) r) (cond (x .controllable) (k / 2) k)
+      (put (variable (x .own)) (cond (x .controllable) (odd k) (odd r)) val)
   unfolding withInputs
   input-put x xs r k val = by (x .controllable)
     where
-      by : (b : Bool) → cond b (withInputs xs r (k / 2) (put (variable (x .own)) (odd k) val)) (withInputs xs (r / 2) k (put (variable (x .own)) (odd r) val)) ≡ withInputs xs (cond (not b) (r / 2) r) (cond b (k / 2) k) (put (variable (x .own)) (cond b (odd k) (odd r)) val)
+      by : (b : Bool)
+          → cond b (withInputs xs r (k / 2) (put (variable (x .own)) (odd k) val)) (withInputs xs (r / 2) k (put (variable (x .own)) (odd r) val))
+          ≡ withInputs xs (cond (not b) (r / 2) r) (cond b (k / 2) k) (put (variable (x .own)) (cond b (odd k) (odd r)) val)
       by true = refl
       by false = refl
 
-  pub inputs-next : (i r k : ℕ) (val : Valuation) → i < length input → withInputs (drop i (inputsOf input controllable)) r k val ≡ withInputs (drop (i + 1) (inputsOf input controllable)) (cond (not (not (eqb (getD controllable i 0) 0))) (r / 2) r) (cond (not (eqb (getD controllable i 0) 0)) (k / 2) k) (put (variable (literalOf (getD input i 0))) (cond (not (eqb (getD controllable i 0) 0)) (odd k) (odd r)) val)
+  pub inputs-next : (i r k : ℕ) (val : Valuation) → i < length input
+      → withInputs (drop i (inputsOf input controllable)) r k val
+      ≡ withInputs (drop (i + 1) (inputsOf input controllable))
+      (cond (not (not (eqb (getD controllable i 0) 0))) (r / 2) r)
+      (cond (not (eqb (getD controllable i 0) 0)) (k / 2) k)
+      (put (variable (literalOf (getD input i 0))) (cond (not (eqb (getD controllable i 0) 0)) (odd k) (odd r)) val)
   unfolding inputsOf inputAt
-  inputs-next i r k val h = rw add-one (ap (λ (is : List Input). withInputs is r k val) (drop-table inputAt (length input) i h) ∙ input-put (inputAt i) (drop (suc i) (table inputAt (length input))) r k val)
+  inputs-next i r k val h =
+      let here = ap (λ (is : List Input). withInputs is r k val) (drop-table inputAt (length input) i h) in
+      rw add-one (here ∙ input-put (inputAt i) (drop (suc i) (table inputAt (length input))) r k val)
 
   pub inputs-end : (i r k : ℕ) (val : Valuation) → length input ≤ i → withInputs (drop i (inputsOf input controllable)) r k val ≡ val
   unfolding inputsOf inputAt withInputs
@@ -63,7 +76,9 @@ module _ (latch next : List ℕ) where
   latchAt : ℕ → Latch
   latchAt i = record { own = literalOf (getD latch i 0); next = literalOf (getD next i 0) }
 
-  pub latches-next : (i s : ℕ) (val : Valuation) → i < min (length latch) (base .latches) → withLatches (drop i (latchesOf latch next)) s val ≡ withLatches (drop (i + 1) (latchesOf latch next)) (s / 2) (put (variable (literalOf (getD latch i 0))) (odd s) val)
+  pub latches-next : (i s : ℕ) (val : Valuation) → i < min (length latch) (base .latches)
+      → withLatches (drop i (latchesOf latch next)) s val
+      ≡ withLatches (drop (i + 1) (latchesOf latch next)) (s / 2) (put (variable (literalOf (getD latch i 0))) (odd s) val)
   unfolding latchesOf latchAt withLatches
   latches-next i s val h = rw add-one (ap (λ (ls : List Latch). withLatches ls s val) (drop-table latchAt (min (length latch) (base .latches)) i h))
 
@@ -75,7 +90,10 @@ module _ (gate left right : List ℕ) where
   gateAt : ℕ → Gate
   gateAt i = record { own = literalOf (getD gate i 0); left = literalOf (getD left i 0); right = literalOf (getD right i 0) }
 
-  pub gates-next : (i : ℕ) (val : Valuation) → i < length gate → withGates (drop i (gatesOf gate left right)) val ≡ withGates (drop (i + 1) (gatesOf gate left right)) (put (variable (literalOf (getD gate i 0))) (literalValue val (literalOf (getD left i 0)) && literalValue val (literalOf (getD right i 0))) val)
+  pub gates-next : (i : ℕ) (val : Valuation) → i < length gate
+      → withGates (drop i (gatesOf gate left right)) val
+      ≡ withGates (drop (i + 1) (gatesOf gate left right))
+      (put (variable (literalOf (getD gate i 0))) (literalValue val (literalOf (getD left i 0)) && literalValue val (literalOf (getD right i 0))) val)
   unfolding gatesOf gateAt withGates
   gates-next i val h = rw add-one (ap (λ (gs : List Gate). withGates gs val) (drop-table gateAt (length gate) i h))
 

@@ -13,20 +13,28 @@ is-odd-requires c κs = search needs
 returns : tie.Need-returns
 returns c = let a = c .before .before .before .args in c .is-odd .ensures ∙ sym (value-constant (truths (a .values .now)) (a .l) (search needs))
 
-cast-truth-at : tie.Need-cast-truth-at
-cast-truth-at c = search needs
+cast-byte-bit : tie.Need-cast-byte-bit
+cast-byte-bit c = search needs
 
-truth-at-requires : tie.Need-truth-at-requires
-truth-at-requires c κs = search needs
+byte-bit-requires : tie.Need-byte-bit-requires
+byte-bit-requires c κs = search needs
 
 is-odd-requires-2 : tie.Need-is-odd-requires-2
 is-odd-requires-2 c κs = search needs
 
 returns-2 : tie.Need-returns-2
-returns-2 c = let a = c .before .before .before .before .before .args in ap not (c .before .before .truth-at .ensures) ∙ sym (value-inverted (truths (a .values .now)) (a .l) (search needs) (sym (c .before .is-odd2 .ensures) ∙ c .if2 .taken))
+unfolding truths
+returns-2 c =
+    let a = c .before .before .before .before .before .args in
+    let odd = sym (c .before .is-odd2 .ensures) ∙ c .if2 .taken in
+    ap not (c .before .before .byte-bit .ensures) ∙ sym (value-inverted (truths (a .values .now)) (a .l) (search needs) odd)
 
 returns-3 : tie.Need-returns-3
-returns-3 c = let a = c .before .before .before .before .before .args in c .before .before .truth-at .ensures ∙ sym (value-plain (truths (a .values .now)) (a .l) (search needs) (sym (c .before .is-odd2 .ensures) ∙ c .if2 .left))
+unfolding truths
+returns-3 c =
+    let a = c .before .before .before .before .before .args in
+    let even = sym (c .before .is-odd2 .ensures) ∙ c .if2 .left in
+    c .before .before .byte-bit .ensures ∙ sym (value-plain (truths (a .values .now)) (a .l) (search needs) even)
 
 pub literal-value-spec : {M : Type 1} → statement M
 literal-value-spec =
@@ -34,8 +42,8 @@ literal-value-spec =
     (tie.spec
     is-odd-requires
     returns
-    cast-truth-at
-    truth-at-requires
+    cast-byte-bit
+    byte-bit-requires
     is-odd-requires-2
     returns-2
     returns-3)

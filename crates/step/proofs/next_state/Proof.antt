@@ -17,8 +17,11 @@ use Rattle.step.proofs.laws.Truths.{one-if-bit}
 use Rattle.step.proofs.next_state.Statement.{statement}
 use Rattle.step.proofs.next_state.Tie as tie
 
-fits : (latch next : List ℕ) (val : Valuation) (i state : ℕ) → FromTop (nextBit next val) (min (length latch) (base .latches)) i state → state < 2 ^ base .latches
-fits latch next val i state b = omega (arith, top-fits (nextBit next val) (min (length latch) (base .latches)) (next-bit-small next val) i state b, pow-le-pow-right {n = 2} fewer-two fewer)
+fits : (latch next : List ℕ) (val : Valuation) (i state : ℕ)
+    → FromTop (nextBit next val) (min (length latch) (base .latches)) i state → state < 2 ^ base .latches
+fits latch next val i state b =
+    let top = top-fits (nextBit next val) (min (length latch) (base .latches)) (next-bit-small next val) i state b in
+    omega (arith, top, pow-le-pow-right {n = 2} fewer-two fewer)
   where
     fewer-two : 1 ≤ 2
     fewer-two = omega arith
@@ -36,7 +39,9 @@ latches-of-requires : tie.Need-latches-of-requires Inv-loop μ-loop
 latches-of-requires c κs = search needs
 
 loop-holds : tie.Need-loop-holds Inv-loop μ-loop
-loop-holds c = let a = c .before .before .before .before .args in rw (c .latches-of .ensures) (top-start (nextBit (a .next .now) (truths (a .values .now))) (min (length (a .latch .now)) (base .latches)))
+loop-holds c =
+    let a = c .before .before .before .before .args in
+    rw (c .latches-of .ensures) (top-start (nextBit (a .next .now) (truths (a .values .now))) (min (length (a .latch .now)) (base .latches)))
 
 sub-i : tie.Need-sub-i Inv-loop μ-loop
 sub-i c = search needs
@@ -61,7 +66,8 @@ cast-state c = omega (arith, c .one-if .ensures, one-if-bit (c .before .literal-
 add-state : tie.Need-add-state Inv-loop μ-loop
 add-state c = let a = c .before .before .before .before .before .before .before .before .before .args in
     let l = c .before .before .before .before .loop in
-    omega (arith, fits (a .latch .now) (a .next .now) (truths (a .values .now)) (l .i) (l .state) (l .inv), c .one-if .ensures, one-if-bit (c .before .literal-value .result))
+    let small = fits (a .latch .now) (a .next .now) (truths (a .values .now)) (l .i) (l .state) (l .inv) in
+    omega (arith, small, c .one-if .ensures, one-if-bit (c .before .literal-value .result))
 
 loop-less : tie.Need-loop-less Inv-loop μ-loop
 loop-less c = search needs
@@ -71,14 +77,19 @@ unfolding nextBit
 loop-again c = let a = c .before .before .before .before .before .before .before .before .before .args in
     let l = c .before .before .before .before .loop in
     let val = truths (a .values .now) in
-    let bit : c .one-if .result ≡ oneIf (literalValue val (literalOf (getD (a .next .now) (l .i - 1) 0))) = c .one-if .ensures ∙ ap oneIf (c .before .literal-value .ensures ∙ ap (literalValue val) (c .before .before .literal-at .ensures)) in
-    rw bit (top-next (nextBit (a .next .now) val) (min (length (a .latch .now)) (base .latches)) (l .i - 1) (l .state) (subst (λ (n : ℕ). FromTop (nextBit (a .next .now) val) (min (length (a .latch .now)) (base .latches)) n (l .state)) (omega arith) (l .inv)))
+    let f = nextBit (a .next .now) val in
+    let n = min (length (a .latch .now)) (base .latches) in
+    let truth = c .before .literal-value .ensures ∙ ap (literalValue val) (c .before .before .literal-at .ensures) in
+    let bit : c .one-if .result ≡ oneIf (literalValue val (literalOf (getD (a .next .now) (l .i - 1) 0))) = c .one-if .ensures ∙ ap oneIf truth in
+    rw bit (top-next f n (l .i - 1) (l .state) (subst (λ (i : ℕ). FromTop f n i (l .state)) (omega arith) (l .inv)))
 
 returns : tie.Need-returns Inv-loop μ-loop
 returns c = let a = c .before .before .before .before .before .before .args in
     let l = c .before .loop in
     let f = nextBit (a .next .now) (truths (a .values .now)) in
-    top-end f (min (length (a .latch .now)) (base .latches)) (l .state) (subst (λ (n : ℕ). FromTop f (min (length (a .latch .now)) (base .latches)) n (l .state)) (omega arith) (l .inv)) ∙ sym (next-is-sum (a .latch .now) (a .next .now) (truths (a .values .now)))
+    let n = min (length (a .latch .now)) (base .latches) in
+    top-end f n (l .state) (subst (λ (i : ℕ). FromTop f n i (l .state)) (omega arith) (l .inv))
+    ∙ sym (next-is-sum (a .latch .now) (a .next .now) (truths (a .values .now)))
 
 pub next-state-spec : {M : Type 1} → statement M
 next-state-spec =

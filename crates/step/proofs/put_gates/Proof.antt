@@ -12,7 +12,9 @@ use Rattle.step.proofs.put_gates.Statement.{statement}
 use Rattle.step.proofs.put_gates.Tie as tie
 
 abbrev Inv-loop : tie.InvT-loop
-Inv-loop values₀ gate left right i₀ values i = Putting (length gate) i values₀ values (withGates (gatesOf gate left right) (truths values₀)) (withGates (drop i (gatesOf gate left right)) (truths values))
+Inv-loop values₀ gate left right i₀ values i =
+    let gates = gatesOf gate left right in
+    Putting (length gate) i values₀ values (withGates gates (truths values₀)) (withGates (drop i gates) (truths values))
 
 abbrev μ-loop : tie.MeasureT-loop
 μ-loop values₀ gate left right i₀ values i = length gate - i
@@ -36,7 +38,9 @@ loop-again : tie.Need-loop-again Inv-loop μ-loop
 loop-again c = let a = c .before .before .before .before .before .before .before .before .before .before .before .before .args in
     let l = c .before .before .before .before .before .before .before .loop in
     let next = gates-next (a .gate .now) (a .left .now) (a .right .now) (l .i) (truths (l .values)) (omega arith) in
-    put-one (length (a .gate .now)) (l .i) (a .values .now) (l .values) (c .before .before .put-at .last .0) _ _ _ (l .inv) (omega arith) (search needs) (cc (next, c .before .before .put-at .ensures, c .before .before .before .before .gate-value .ensures))
+    let put = c .before .before .put-at in
+    put-one (length (a .gate .now)) (l .i) (a .values .now) (l .values) (put .last .0) _ _ _ (l .inv) (omega arith) (search needs)
+    (cc (next, put .ensures, c .before .before .before .before .gate-value .ensures))
 
 same-length : tie.Need-same-length Inv-loop μ-loop
 same-length c = search needs

@@ -12,7 +12,10 @@ use Rattle.step.proofs.put_inputs.Statement.{statement}
 use Rattle.step.proofs.put_inputs.Tie as tie
 
 abbrev Inv-loop : tie.InvT-loop
-Inv-loop values₀ input controllable reading control r₀ k₀ i₀ values r k i = Putting (length input) i values₀ values (withInputs (inputsOf input controllable) reading control (truths values₀)) (withInputs (drop i (inputsOf input controllable)) r k (truths values))
+Inv-loop values₀ input controllable reading control r₀ k₀ i₀ values r k i =
+    let inputs = inputsOf input controllable in
+    let whole = withInputs inputs reading control (truths values₀) in
+    Putting (length input) i values₀ values whole (withInputs (drop i inputs) r k (truths values))
 
 abbrev μ-loop : tie.MeasureT-loop
 μ-loop values₀ input controllable reading control r₀ k₀ i₀ values r k i = length input - i
@@ -44,8 +47,13 @@ loop-less c = search needs
 loop-again : tie.Need-loop-again Inv-loop μ-loop
 loop-again c = let a = c .before .before .before .before .before .before .before .before .before .before .before .before .before .args in
     let l = c .before .before .before .before .before .before .before .before .before .loop in
-    let next = inputs-next (a .input .now) (a .controllable .now) (l .i) (l .r) (l .k) (truths (l .values)) (c .before .before .before .before .before .before .before .before .loop-test .taken) in
-    put-one (length (a .input .now)) (l .i) (a .values .now) (l .values) (c .before .before .before .before .put-at .last .0) _ _ _ (l .inv) (search needs) (search needs) (cc (next, c .halved-if2 .ensures, c .before .halved-if .ensures, c .before .before .before .before .put-at .ensures, c .before .before .before .before .before .bit-of .ensures, c .before .before .before .before .before .before .before .is-controllable .ensures))
+    let p = c .before .before .before .before in
+    let t = p .before .before .before in
+    let next = inputs-next (a .input .now) (a .controllable .now) (l .i) (l .r) (l .k) (truths (l .values)) (t .before .loop-test .taken) in
+    let halved = c .before .halved-if .ensures in
+    let put = p .put-at in
+    put-one (length (a .input .now)) (l .i) (a .values .now) (l .values) (put .last .0) _ _ _ (l .inv) (search needs) (search needs)
+    (cc (next, c .halved-if2 .ensures, halved, put .ensures, p .before .bit-of .ensures, t .is-controllable .ensures))
 
 same-length : tie.Need-same-length Inv-loop μ-loop
 same-length c = search needs

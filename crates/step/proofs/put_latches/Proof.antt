@@ -13,7 +13,10 @@ use Rattle.step.proofs.put_latches.Statement.{statement}
 use Rattle.step.proofs.put_latches.Tie as tie
 
 abbrev Inv-loop : tie.InvT-loop
-Inv-loop values₀ latch next state n s₀ i₀ values s i = Putting (min (length latch) (base .latches)) i values₀ values (withLatches (latchesOf latch next) state (truths values₀)) (withLatches (drop i (latchesOf latch next)) s (truths values))
+Inv-loop values₀ latch next state n s₀ i₀ values s i =
+    let latches = latchesOf latch next in
+    let whole = withLatches latches state (truths values₀) in
+    Putting (min (length latch) (base .latches)) i values₀ values whole (withLatches (drop i latches) s (truths values))
 
 abbrev μ-loop : tie.MeasureT-loop
 μ-loop values₀ latch next state n s₀ i₀ values s i = n - i
@@ -40,7 +43,10 @@ loop-again : tie.Need-loop-again Inv-loop μ-loop
 loop-again c = let a = c .before .before .before .before .before .before .before .before .before .before .before .args in
     let l = c .before .before .before .before .before .before .loop in
     let next = latches-next (a .latch .now) (a .next .now) (l .i) (l .s) (truths (l .values)) (omega arith) in
-    put-one (min (length (a .latch .now)) (base .latches)) (l .i) (a .values .now) (l .values) (c .before .before .put-at .last .0) _ _ _ (l .inv) (omega arith) (search needs) (cc (next, c .before .before .put-at .ensures, c .before .before .before .is-odd .ensures))
+    let n = min (length (a .latch .now)) (base .latches) in
+    let put = c .before .before .put-at in
+    put-one n (l .i) (a .values .now) (l .values) (put .last .0) _ _ _ (l .inv) (omega arith) (search needs)
+    (cc (next, put .ensures, c .before .before .before .is-odd .ensures))
 
 same-length : tie.Need-same-length Inv-loop μ-loop
 same-length c = search needs

@@ -14,7 +14,12 @@ returns : tie.Need-returns
 unfolding meant
 returns c = let a = c .before .before .before .before .before .before .before .before .before .before .before .before .before .before .before .before .args in
     let v = a .t1 in
-    c .step-counted .ensures ∙ largest-not-read (take (v .inputs) (v .input)) (v .controllable) (take (v .latches) (v .latch)) (v .next) (v .output) (take (v .gates) (v .gate)) (v .left) (v .right) 0 (v .largest) (a .state) (a .reading .0) (a .control .0)
+    let input = take (v .inputs) (v .input) in
+    let latch = take (v .latches) (v .latch) in
+    let gate = take (v .gates) (v .gate) in
+    c .step-counted .ensures
+    ∙ largest-not-read input (v .controllable) latch (v .next) (v .output) gate (v .left) (v .right)
+    0 (v .largest) (a .state) (a .reading .0) (a .control .0)
 
 pub step-spec : {M : Type 1} → statement M
 step-spec = tie.close (tie.spec step-counted-requires returns)

@@ -35,7 +35,11 @@ returns c = let g = c .before .before .before .before in
     let l = g .before in
     let i = l .before in
     let a = i .before .before .before .before .before .before .before .before .args in
-    c .step-lent .ensures ∙ ap (λ (w : Circuit). stepOf w (a .state) (a .reading .0) (a .control .0)) (lent-counted 0 (a .input .now) (a .controllable .now) (a .latch .now) (a .next .now) (a .output) (a .gate .now) (a .left .now) (a .right .now) (a .inputs) (a .latches) (a .gates) (i .fewer .result) (l .fewer2 .result) (g .fewer3 .result) (i .fewer .ensures) (l .fewer2 .ensures) (g .fewer3 .ensures))
+    let same = lent-counted
+    0 (a .input .now) (a .controllable .now) (a .latch .now) (a .next .now) (a .output) (a .gate .now) (a .left .now) (a .right .now)
+    (a .inputs) (a .latches) (a .gates) (i .fewer .result) (l .fewer2 .result) (g .fewer3 .result)
+    (i .fewer .ensures) (l .fewer2 .ensures) (g .fewer3 .ensures) in
+    c .step-lent .ensures ∙ ap (λ (w : Circuit). stepOf w (a .state) (a .reading .0) (a .control .0)) same
 
 pub step-counted-spec : {M : Type 1} → statement M
 step-counted-spec =

@@ -36,9 +36,15 @@ returns c = let v = c .before .before in
     let s = i .before .before .before .before .before .before .before .before .before .before in
     let a = s .args in
     let val = truths (g .put-gates .last .0) in
-    step-is (a .input .now) (a .controllable .now) (a .latch .now) (a .next .now) (a .output) (a .gate .now) (a .left .now) (a .right .now) (a .state) (a .reading .0) (a .control .0) val (v .literal-value .result) (c .next-state .result)
-    (values-put (a .input .now) (a .controllable .now) (a .latch .now) (a .next .now) (a .output) (a .gate .now) (a .left .now) (a .right .now) (a .state) (a .reading .0) (a .control .0) (truths (a .values .now)) (truths (i .put-inputs .last .0)) (truths (l .put-latches .last .0)) val (s .pre .1) (i .put-inputs .ensures) (l .put-latches .ensures) (g .put-gates .ensures))
-    (v .literal-value .ensures ∙ ap (literalValue val) (v .before .literal .ensures)) (c .next-state .ensures)
+    let put = values-put
+    (a .input .now) (a .controllable .now) (a .latch .now) (a .next .now) (a .output) (a .gate .now) (a .left .now) (a .right .now)
+    (a .state) (a .reading .0) (a .control .0)
+    (truths (a .values .now)) (truths (i .put-inputs .last .0)) (truths (l .put-latches .last .0)) val
+    (s .pre .1) (i .put-inputs .ensures) (l .put-latches .ensures) (g .put-gates .ensures) in
+    let error = v .literal-value .ensures ∙ ap (literalValue val) (v .before .literal .ensures) in
+    step-is
+    (a .input .now) (a .controllable .now) (a .latch .now) (a .next .now) (a .output) (a .gate .now) (a .left .now) (a .right .now)
+    (a .state) (a .reading .0) (a .control .0) val (v .literal-value .result) (c .next-state .result) put error (c .next-state .ensures)
 
 pub step-in-spec : {M : Type 1} → statement M
 step-in-spec =

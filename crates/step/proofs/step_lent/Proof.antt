@@ -1,5 +1,5 @@
 -- `step::step_lent` meets its contract: the step over bytes that hold no truth yet.
-use Prim.Native.Nat.{_+_}
+use Prim.Native.Nat.{_+_, _/_}
 use native.Mathlib.Omega.{arith}
 use borrow.Author.Needs.{needs}
 use Rattle.circuit.specs.Limits.{base}
@@ -11,7 +11,7 @@ slice-aggregate-step-in : tie.Need-slice-aggregate-step-in
 slice-aggregate-step-in c = search needs
 
 step-in-requires : tie.Need-step-in-requires
-step-in-requires c κs = (omega arith, zeros-false (base .variable + 1))
+step-in-requires c κs = (omega arith, zeros-false ((base .variable + 8) / 8))
 
 returns : tie.Need-returns
 returns c = search needs
