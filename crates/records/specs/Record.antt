@@ -1,6 +1,6 @@
 -- A record (01, "The certificate"): length first (4 bytes, little-endian, contents only), a two-byte kind, little-endian, then the
 -- contents. Assumes nothing.
-use Prim.Native.Nat.{ℕ, _+_, _-_}
+use Prim.Native.Nat.{ℕ, _+_}
 use mathlib.Core.Bool.{cond, _&&_}
 use mathlib.Core.List.{List, _++_}
 use lib.Dec.{leb}

@@ -1,7 +1,7 @@
 -- The two shapes of a certificate (01, "The certificate"): kinds 1, 2, 3 or kinds 1, 4, back to back, and nothing follows. The kinds of
 -- reply record are an argument. Assumes nothing.
 use Prim.Native.Nat.{ℕ}
-use mathlib.Core.Bool.{Bool, true, false, cond, _&&_}
+use mathlib.Core.Bool.{cond, _&&_}
 use mathlib.Core.List.{List, [], _∷_}
 use mathlib.Core.Option.{Option, none, some}
 use lib.Dec.{eqb}

@@ -8,15 +8,6 @@ use borrow.Author.Needs.{needs}
 use Rattle.checker.proofs.check.Statement.{statement}
 use Rattle.checker.proofs.check.Tie as tie
 
-read-requires : tie.Need-read-requires
-read-requires c κs = search needs
-
-enum-known-answer : tie.Need-enum-known-answer
-enum-known-answer c = search needs
-
-enum-told : tie.Need-enum-told
-enum-told c = search needs
-
 check-circuit-requires : tie.Need-check-circuit-requires
 check-circuit-requires c κs =
     let a = c .before .before .before .before .before .args in
@@ -37,4 +28,4 @@ returns-2 c = c .check-circuit .ensures
 pub check-spec : {M : Type 1} → statement M
 check-spec =
     tie.close
-    (tie.spec read-requires enum-known-answer enum-told check-circuit-requires returns returns-2)
+    (tie.spec (λ c κs. search needs) (λ c. search needs) (λ c. search needs) check-circuit-requires returns returns-2)

@@ -24,9 +24,6 @@ as-long c = c .make .ensures .length ∙ sym (ap length (lent-is c))
 few : (c : tie.After-make) → c .make .result .length ≤ length (c .make .result .numbers)
 few c = omega (arith, as-long c, length-take (c .make .result .length) (c .make .result .numbers))
 
-make-requires : tie.Need-make-requires
-make-requires c κs = search needs
-
 array-share-prefix-numbers : tie.Need-array-share-prefix-numbers
 array-share-prefix-numbers c = few (c .before)
 
@@ -46,4 +43,4 @@ returns c = c .check-net .ensures
 pub check-circuit-spec : {M : Type 1} → statement M
 check-circuit-spec =
     tie.close
-    (tie.spec make-requires array-share-prefix-numbers slice-aggregate-check-net check-net-requires returns)
+    (tie.spec (λ c κs. search needs) array-share-prefix-numbers slice-aggregate-check-net check-net-requires returns)

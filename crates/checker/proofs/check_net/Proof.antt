@@ -19,12 +19,6 @@ attack-lies : (w : tie.After-circuit-end2) → AttackParts acceptedKinds (w .bef
     (w .circuit-end2 .given .0 .0) (w .circuit-end2 .given .0 .1 .0) (w .circuit-end2 .given .0 .1 .1 .0)
 attack-lies w = attack-parts acceptedKinds _ _ _ _ (sym (w .circuit-end2 .given .1) ∙ w .before .before .shape-of .ensures)
 
-shape-of-requires : tie.Need-shape-of-requires
-shape-of-requires c κs = search needs
-
-enum-known-circuit-end : tie.Need-enum-known-circuit-end
-enum-known-circuit-end c = search needs
-
 sub-same-bytes : tie.Need-sub-same-bytes
 sub-same-bytes c = reply-lies (c .before) .circuitPart .ordered
 
@@ -33,9 +27,6 @@ part-same-bytes-start c = reply-lies (c .before) .circuitPart .ordered
 
 part-same-bytes-end : tie.Need-part-same-bytes-end
 part-same-bytes-end c = reply-lies (c .before) .circuitPart .inside
-
-same-bytes-requires : tie.Need-same-bytes-requires
-same-bytes-requires c κs = search needs
 
 returns : tie.Need-returns
 unfolding checkedOutcome
@@ -66,9 +57,6 @@ part-check-replies-end-2 c = reply-lies (c .before .before .before .before .befo
 check-replies-requires : tie.Need-check-replies-requires
 check-replies-requires c κs = c .before .before .before .before .before .before .before .before .before .before .before .before .pre .sized
 
-enum-known-circuit-end-2 : tie.Need-enum-known-circuit-end-2
-enum-known-circuit-end-2 c = search needs
-
 sub-same-bytes-2 : tie.Need-sub-same-bytes-2
 sub-same-bytes-2 c = attack-lies (c .before) .circuitPart .ordered
 
@@ -77,9 +65,6 @@ part-same-bytes-start-2 c = attack-lies (c .before) .circuitPart .ordered
 
 part-same-bytes-end-2 : tie.Need-part-same-bytes-end-2
 part-same-bytes-end-2 c = attack-lies (c .before) .circuitPart .inside
-
-same-bytes-requires-2 : tie.Need-same-bytes-requires-2
-same-bytes-requires-2 c κs = search needs
 
 returns-2 : tie.Need-returns-2
 unfolding checkedOutcome
@@ -100,9 +85,6 @@ part-check-attacks-end c = attack-lies (c .before .before .before .before) .tabl
 
 check-attacks-requires : tie.Need-check-attacks-requires
 check-attacks-requires c κs = c .before .before .before .before .before .before .before .before .before .before .before .pre .sized
-
-enum-told : tie.Need-enum-told
-enum-told c = search needs
 
 returns-3 : tie.Need-returns-3
 returns-3 c =
@@ -129,12 +111,12 @@ pub check-net-spec : {M : Type 1} → statement M
 check-net-spec =
     tie.close
     (tie.spec
-    shape-of-requires
-    enum-known-circuit-end
+    (λ c κs. search needs)
+    (λ c. search needs)
     sub-same-bytes
     part-same-bytes-start
     part-same-bytes-end
-    same-bytes-requires
+    (λ c κs. search needs)
     returns
     sub-check-replies
     part-check-replies-start
@@ -143,17 +125,17 @@ check-net-spec =
     part-check-replies-start-2
     part-check-replies-end-2
     check-replies-requires
-    enum-known-circuit-end-2
+    (λ c. search needs)
     sub-same-bytes-2
     part-same-bytes-start-2
     part-same-bytes-end-2
-    same-bytes-requires-2
+    (λ c κs. search needs)
     returns-2
     sub-check-attacks
     part-check-attacks-start
     part-check-attacks-end
     check-attacks-requires
-    enum-told
+    (λ c. search needs)
     returns-3
     returns-4
     returns-5)

@@ -21,7 +21,7 @@ use Rattle.checker.specs.Check.{orBadShape, tablesChecked, checkOf}
 use Rattle.checker.specs.Numbers.{otherCircuit}
 use Rattle.checker.specs.Rules.{badReplyTables, badAttackTable, resetOutside, resetUnranked}
 use Rattle.checker.specs.Rules.{brokenReply, someReplyBroken, brokenAttack, someAttackBroken}
-use Rattle.checker.proofs.laws.JudgedBy.{fine-judged}
+use Rattle.checker.proofs.laws.JudgedBy.{judged-fine, fine-judged}
 
 -- no number applies to a reply table
 pub record RepliesPass (c : Circuit) (region table : List ℕ) : Type 0 where
@@ -47,6 +47,12 @@ tables-pass c (replies circuit region kind table) t e =
 tables-pass c (attacks circuit table) t e =
     let fine = fine-judged _ _ _ (brokenAttack c table) (attacks circuit table) t e in
     (fine .same, record { sized = fine .sized; reset = fine .reset-is; rule = fine .rule })
+
+-- and back: no test refuses tables that pass
+pub tables-taken : (c : Circuit) (t : Tables) → TablesPass c t → tablesChecked c t ≡ taken t
+unfolding tablesChecked
+tables-taken c (replies circuit region kind table) p = judged-fine _ _ _ _ _ (p .sized) (p .reset) (p .rule)
+tables-taken c (attacks circuit table) p = judged-fine _ _ _ _ _ (p .sized) (p .reset) (p .rule)
 
 pub record Passes (file certificate : List ℕ) (t : Tables) : Type 0 where
   pub circuit : Circuit

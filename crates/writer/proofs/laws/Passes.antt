@@ -1,13 +1,12 @@
 -- What is written passes (the mission's rule 3): the certificate of a circuit that was read from a file passes the check against that
 -- file, and the check takes its tables. Assumes nothing.
-use Prim.Native.Nat.{ℕ, _+_, _*_, _^_, _≤_}
+use Prim.Native.Nat.{ℕ, _+_, _^_, _≤_}
 use native.Mathlib.Decide.{decLe}
 use native.Mathlib.Omega.{arith}
 use mathlib.Core.Bool.{Bool, true, false, cond, not}
 use mathlib.Core.List.{List, _++_}
 use mathlib.Core.Option.{some}
 use mathlib.Core.Path.{_≡_, refl, sym, ap, _∙_}
-use lib.Dec.{ltb}
 use lib.ListN.{length, take, drop}
 use lib.Seq.{take-at}
 use lib.Pow.{pow-mono}
@@ -32,9 +31,8 @@ use Rattle.records.specs.Tables.{acceptedKinds, Tables, replies, attacks, table
 use Rattle.records.proofs.laws.Lengths.{length-region, length-replies, length-attacks}
 use Rattle.records.proofs.laws.WrittenShape.{replies-shape, attacks-shape}
 use Rattle.checker.specs.Check.{orBadShape, tablesChecked, checkOf}
-use Rattle.checker.specs.Numbers.{otherCircuit, badTable, badReset, brokenStep}
-use Rattle.checker.specs.Rules.{badReplyTables, badAttackTable, resetOutside, resetUnranked, brokenReply, brokenAttack}
-use Rattle.checker.proofs.laws.Pass.{TablesPass}
+use Rattle.checker.specs.Numbers.{otherCircuit}
+use Rattle.checker.proofs.laws.Pass.{TablesPass, tables-taken}
 use Rattle.writer.specs.Answer.{Verdict, certificateFor, verdictFor}
 use Rattle.writer.specs.Certificate.{replyCertificate, attackCertificate, certificateOf}
 use Rattle.writer.proofs.laws.Certified.{replies-of, attacks-of}
@@ -45,18 +43,6 @@ use Rattle.file.proofs.laws.Within.{Within, read-within}
 unfoldable pub ownTables : List ℕ → Circuit → Tables
 ownTables file c = cond (isRealizable c) (replies file (ownRegion c) replyKind (ownReplies c)) (attacks file (ownAttacks c))
 
--- no test of the check refuses tables that pass
-checked-taken : (c : Circuit) (t : Tables) → TablesPass c t → tablesChecked c t ≡ taken t
-unfolding tablesChecked
-checked-taken c (replies circuit region kind table) p =
-    test-passes (badReplyTables c region table) badTable 0 _ (p .sized)
-    ∙ test-passes (resetOutside c region) badReset 0 _ (p .reset)
-    ∙ test-passes (ltb (brokenReply c region table) (circuitGame c .states * circuitGame c .readings)) brokenStep (brokenReply c region table) _ (p .rule)
-checked-taken c (attacks circuit table) p =
-    test-passes (badAttackTable c table) badTable 0 _ (p .sized)
-    ∙ test-passes (resetUnranked c table) badReset 0 _ (p .reset)
-    ∙ test-passes (ltb (brokenAttack c table) (circuitGame c .states)) brokenStep (brokenAttack c table) _ (p .rule)
-
 -- a certificate whose tables pass, of this circuit file, passes
 pub passes-of :
     (file certificate : List ℕ) (c : Circuit) (t : Tables) → circuitIn file ≡ taken c → tablesOf acceptedKinds certificate ≡ some t
@@ -65,7 +51,7 @@ unfolding checkOf orBadShape
 passes-of file certificate c t reads shape same fine =
     rw (reads, shape)
     (test-passes (not (sameBytes (circuitPart t) file)) otherCircuit 0 (tablesChecked c t) (ap not (equal-same-bytes (circuitPart t) file same))
-    ∙ checked-taken c t fine)
+    ∙ tables-taken c t fine)
 
 module _ (file : List ℕ) (c : Circuit) (within : Within file c) where
   few : 2 ^ latchCount c ≤ 2 ^ base .latches

@@ -8,12 +8,6 @@ use borrow.Author.Needs.{needs}
 use Rattle.checker.proofs.attacks.attack_broken.Statement.{statement}
 use Rattle.checker.proofs.attacks.attack_broken.Tie as tie
 
-latches-of-requires : tie.Need-latches-of-requires
-latches-of-requires c κs = search needs
-
-stored-rank-requires : tie.Need-stored-rank-requires
-stored-rank-requires c κs = search needs
-
 returns : tie.Need-returns
 returns c =
     let a = c .before .before .before .before .before .args in
@@ -21,17 +15,8 @@ returns c =
     let k = c .before .stored-rank in
     unranked-no-fault (a .net .now) (a .table .now) (a .state) (l .result) (k .result) (l .ensures) (k .ensures) (c .if1 .taken)
 
-stored-attack-requires : tie.Need-stored-attack-requires
-stored-attack-requires c κs = search needs
-
-readings-of-requires : tie.Need-readings-of-requires
-readings-of-requires c κs = search needs
-
 power-requires : tie.Need-power-requires
 power-requires c κs = omega (arith, c .readings-of .ensures, c .before .before .before .before .before .before .before .pre .fewReadings)
-
-cast-if2 : tie.Need-cast-if2
-cast-if2 c = search needs
 
 returns-2 : tie.Need-returns-2
 returns-2 c =
@@ -63,13 +48,13 @@ pub attack-broken-spec : {M : Type 1} → statement M
 attack-broken-spec =
     tie.close
     (tie.spec
-    latches-of-requires
-    stored-rank-requires
+    (λ c κs. search needs)
+    (λ c κs. search needs)
     returns
-    stored-attack-requires
-    readings-of-requires
+    (λ c κs. search needs)
+    (λ c κs. search needs)
     power-requires
-    cast-if2
+    (λ c. search needs)
     returns-2
     is-answered-requires
     returns-3)

@@ -17,9 +17,6 @@ Inv-loop net table n s₀ s = Passed (attackFault net table) n s
 abbrev μ-loop : tie.MeasureT-loop
 μ-loop net table n s₀ s = n - s
 
-latches-of-requires : tie.Need-latches-of-requires Inv-loop μ-loop
-latches-of-requires c κs = search needs
-
 power-requires : tie.Need-power-requires Inv-loop μ-loop
 power-requires c κs = omega (arith, c .latches-of .ensures, c .before .before .before .pre .order .states)
 
@@ -73,7 +70,7 @@ broken-attack-spec =
     (tie.spec
     Inv-loop
     μ-loop
-    latches-of-requires
+    (λ c κs. search needs)
     power-requires
     loop-holds
     cast-attack-broken

@@ -10,9 +10,6 @@ use borrow.Author.Needs.{needs}
 use Rattle.checker.proofs.attacks.check_attacks.Statement.{statement}
 use Rattle.checker.proofs.attacks.check_attacks.Tie as tie
 
-latches-of-requires : tie.Need-latches-of-requires
-latches-of-requires c κs = search needs
-
 power-requires : tie.Need-power-requires
 power-requires c κs = omega (arith, c .latches-of .ensures, c .before .before .before .pre .order .states)
 
@@ -29,9 +26,6 @@ returns c =
     let a = w .before .before .before .args in
     attacks-badly-sized (a .net .now) (a .table .now) _ (a .start) (c .before .power .result) _ (w .latches-of .ensures) (c .before .power .ensures) refl
     (c .if1 .taken)
-
-stored-rank-requires : tie.Need-stored-rank-requires
-stored-rank-requires c κs = search needs
 
 returns-2 : tie.Need-returns-2
 unfolding checkedOutcome
@@ -57,9 +51,6 @@ returns-3 c =
     attacks-broken (a .net .now) (a .table .now) _ (a .start) (p .result) (k .result) (w .latches-of .ensures) (p .ensures) (k .ensures)
     (c .before .before .before .before .if1 .left) (c .before .before .if2 .left) (b .result) (b .ensures) (c .if3 .taken)
 
-readings-of-requires : tie.Need-readings-of-requires
-readings-of-requires c κs = search needs
-
 returns-4 : tie.Need-returns-4
 unfolding checkedOutcome
 returns-4 c =
@@ -76,13 +67,13 @@ pub check-attacks-spec : {M : Type 1} → statement M
 check-attacks-spec =
     tie.close
     (tie.spec
-    latches-of-requires
+    (λ c κs. search needs)
     power-requires
     mul-if1
     returns
-    stored-rank-requires
+    (λ c κs. search needs)
     returns-2
     broken-attack-requires
     returns-3
-    readings-of-requires
+    (λ c κs. search needs)
     returns-4)

@@ -11,9 +11,6 @@ use borrow.Author.Needs.{needs}
 use Rattle.checker.proofs.replies.badly_sized.Statement.{statement}
 use Rattle.checker.proofs.replies.badly_sized.Tie as tie
 
-power-requires : tie.Need-power-requires
-power-requires c κs = search needs
-
 add-if1 : tie.Need-add-if1
 add-if1 c = omega (arith, c .power .ensures, pow-mono {i = c .before .before .before .args .latches} {j = base .latches} (c .before .before .before .pre .0))
 
@@ -23,12 +20,6 @@ returns c =
     let a = c .before .before .before .before .args in
     bad-region (a .region .now) (a .table .now) (a .latches) (a .readings) _ _ (ap (λ (n : ℕ). (n + 7) / 8) (c .before .power .ensures)) refl
     (c .if1 .taken)
-
-add-power : tie.Need-add-power
-add-power c = search needs
-
-power-requires-2 : tie.Need-power-requires-2
-power-requires-2 c κs = search needs
 
 returns-2 : tie.Need-returns-2
 unfolding regionLength replyLength
@@ -56,11 +47,11 @@ pub badly-sized-spec : {M : Type 1} → statement M
 badly-sized-spec =
     tie.close
     (tie.spec
-    power-requires
+    (λ c κs. search needs)
     add-if1
     returns
-    add-power
-    power-requires-2
+    (λ c. search needs)
+    (λ c κs. search needs)
     returns-2
     unused-bit-set-requires
     returns-3)

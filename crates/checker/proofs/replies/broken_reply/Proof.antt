@@ -23,12 +23,6 @@ all : (w : tie.After-power Inv-loop μ-loop) → w .power .result ≡ 2 ^ (netLa
     netReadings (w .before .before .before .before .before .before .args .net .now))
 all w = w .power .ensures ∙ λ x. 2 ^ (w .before .before .latches-of .ensures x + w .before .readings-of .ensures x)
 
-latches-of-requires : tie.Need-latches-of-requires Inv-loop μ-loop
-latches-of-requires c κs = search needs
-
-readings-of-requires : tie.Need-readings-of-requires Inv-loop μ-loop
-readings-of-requires c κs = search needs
-
 add-power : tie.Need-add-power Inv-loop μ-loop
 add-power c = omega (
   arith,
@@ -47,9 +41,6 @@ power-requires c κs = omega (
   c .before .before .before .before .before .pre .order .states,
   c .before .before .before .before .before .pre .fewReadings,
 )
-
-evaluate-requires : tie.Need-evaluate-requires Inv-loop μ-loop
-evaluate-requires c κs = search needs
 
 loop-holds : tie.Need-loop-holds Inv-loop μ-loop
 loop-holds c = (passed-start _ _, λ j h. (_, c .evaluate .ensures j h))
@@ -118,11 +109,11 @@ broken-reply-spec =
     (tie.spec
     Inv-loop
     μ-loop
-    latches-of-requires
-    readings-of-requires
+    (λ c κs. search needs)
+    (λ c κs. search needs)
     add-power
     power-requires
-    evaluate-requires
+    (λ c κs. search needs)
     loop-holds
     look-at-requires
     reply-broken-requires

@@ -8,12 +8,6 @@ use borrow.Author.Needs.{needs}
 use Rattle.checker.proofs.replies.check_replies.Statement.{statement}
 use Rattle.checker.proofs.replies.check_replies.Tie as tie
 
-latches-of-requires : tie.Need-latches-of-requires
-latches-of-requires c κs = search needs
-
-readings-of-requires : tie.Need-readings-of-requires
-readings-of-requires c κs = search needs
-
 badly-sized-requires : tie.Need-badly-sized-requires
 badly-sized-requires c κs =
     let s = c .before .before .before .before .before in
@@ -27,9 +21,6 @@ returns c =
     let b = c .before .badly-sized in
     replies-badly-sized (a .net .now) (a .region .now) (a .table .now) _ _ (a .start) (a .replies) (w .before .latches-of .ensures)
     (w .readings-of .ensures) (b .result) (b .ensures) (c .if1 .taken)
-
-holds-state-requires : tie.Need-holds-state-requires
-holds-state-requires c κs = search needs
 
 returns-2 : tie.Need-returns-2
 unfolding checkedOutcome
@@ -83,11 +74,11 @@ pub check-replies-spec : {M : Type 1} → statement M
 check-replies-spec =
     tie.close
     (tie.spec
-    latches-of-requires
-    readings-of-requires
+    (λ c κs. search needs)
+    (λ c κs. search needs)
     badly-sized-requires
     returns
-    holds-state-requires
+    (λ c κs. search needs)
     returns-2
     broken-reply-requires
     add-power

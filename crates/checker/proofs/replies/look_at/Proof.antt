@@ -11,20 +11,11 @@ use borrow.Author.Needs.{needs}
 use Rattle.checker.proofs.replies.look_at.Statement.{statement}
 use Rattle.checker.proofs.replies.look_at.Tie as tie
 
-latches-of-requires : tie.Need-latches-of-requires
-latches-of-requires c κs = search needs
-
-readings-of-requires : tie.Need-readings-of-requires
-readings-of-requires c κs = search needs
-
 power-requires : tie.Need-power-requires
 power-requires c κs = omega (arith, c .readings-of .ensures, c .before .before .before .before .before .pre .0 .fewReadings)
 
 div-holds-state : tie.Need-div-holds-state
 div-holds-state c = width-positive (c .before .readings-of .result) (c .power .result) (c .power .ensures)
-
-holds-state-requires : tie.Need-holds-state-requires
-holds-state-requires c κs = search needs
 
 returns : tie.Need-returns
 returns c =
@@ -50,9 +41,6 @@ returns-2 c =
     let s = c .before .before .before .before .before .before .before .before .before .before in
     (s .pre .1 .1, λ e. sym (c .if2 .taken) ∙ ap (λ (m : ℕ). m / width) (c .before .reply-move .ensures))
 
-evaluate-requires : tie.Need-evaluate-requires
-evaluate-requires c κs = search needs
-
 returns-3 : tie.Need-returns-3
 returns-3 c = (λ j h. (_, c .evaluate .ensures j h), λ e. ap (λ (m : ℕ). m / width) (c .before .before .before .reply-move .ensures))
 
@@ -60,13 +48,13 @@ pub look-at-spec : {M : Type 1} → statement M
 look-at-spec =
     tie.close
     (tie.spec
-    latches-of-requires
-    readings-of-requires
+    (λ c κs. search needs)
+    (λ c κs. search needs)
     power-requires
     div-holds-state
-    holds-state-requires
+    (λ c κs. search needs)
     returns
     reply-move-requires
     returns-2
-    evaluate-requires
+    (λ c κs. search needs)
     returns-3)

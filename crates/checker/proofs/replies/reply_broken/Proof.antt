@@ -14,23 +14,11 @@ use borrow.Author.Needs.{needs}
 use Rattle.checker.proofs.replies.reply_broken.Statement.{statement}
 use Rattle.checker.proofs.replies.reply_broken.Tie as tie
 
-latches-of-requires : tie.Need-latches-of-requires
-latches-of-requires c κs = search needs
-
-readings-of-requires : tie.Need-readings-of-requires
-readings-of-requires c κs = search needs
-
-controls-of-requires : tie.Need-controls-of-requires
-controls-of-requires c κs = search needs
-
 power-requires : tie.Need-power-requires
 power-requires c κs = omega (arith, c .before .readings-of .ensures, c .before .before .before .before .before .before .pre .0 .fewReadings)
 
 div-state : tie.Need-div-state
 div-state c = width-positive (c .before .before .readings-of .result) (c .power .result) (c .power .ensures)
-
-holds-state-requires : tie.Need-holds-state-requires
-holds-state-requires c κs = search needs
 
 returns : tie.Need-returns
 returns c =
@@ -53,18 +41,12 @@ power-requires-2 c κs = omega (
 rem-stored-reply : tie.Need-rem-stored-reply
 rem-stored-reply c = width-positive (c .before .before .before .before .before .readings-of .result) (c .power2 .result) (c .power2 .ensures)
 
-stored-reply-requires : tie.Need-stored-reply-requires
-stored-reply-requires c κs = search needs
-
 power-requires-3 : tie.Need-power-requires-3
 power-requires-3 c κs = omega (
   arith,
   c .before .before .before .before .before .controls-of .ensures,
   c .before .before .before .before .before .before .before .before .before .before .before .pre .0 .fewControls,
 )
-
-cast-if2 : tie.Need-cast-if2
-cast-if2 c = search needs
 
 returns-2 : tie.Need-returns-2
 returns-2 c =
@@ -88,9 +70,6 @@ reply-move-requires : tie.Need-reply-move-requires
 reply-move-requires c κs =
     let s = c .before .before .before .before .before .before .before .before .before .before .before .before .before in
     (s .pre .0, s .pre .1 .0)
-
-lane-keeps-region-requires : tie.Need-lane-keeps-region-requires
-lane-keeps-region-requires c κs = search needs
 
 returns-3 : tie.Need-returns-3
 returns-3 c =
@@ -122,19 +101,19 @@ pub reply-broken-spec : {M : Type 1} → statement M
 reply-broken-spec =
     tie.close
     (tie.spec
-    latches-of-requires
-    readings-of-requires
-    controls-of-requires
+    (λ c κs. search needs)
+    (λ c κs. search needs)
+    (λ c κs. search needs)
     power-requires
     div-state
-    holds-state-requires
+    (λ c κs. search needs)
     returns
     power-requires-2
     rem-stored-reply
-    stored-reply-requires
+    (λ c κs. search needs)
     power-requires-3
-    cast-if2
+    (λ c. search needs)
     returns-2
     reply-move-requires
-    lane-keeps-region-requires
+    (λ c κs. search needs)
     returns-3)

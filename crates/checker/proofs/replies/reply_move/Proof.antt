@@ -5,12 +5,6 @@ use borrow.Author.Needs.{needs}
 use Rattle.checker.proofs.replies.reply_move.Statement.{statement}
 use Rattle.checker.proofs.replies.reply_move.Tie as tie
 
-latches-of-requires : tie.Need-latches-of-requires
-latches-of-requires c κs = search needs
-
-readings-of-requires : tie.Need-readings-of-requires
-readings-of-requires c κs = search needs
-
 power-requires : tie.Need-power-requires
 power-requires c κs = omega (arith, c .readings-of .ensures, c .before .before .before .before .pre .0 .fewReadings)
 
@@ -22,12 +16,6 @@ power-requires-2 c κs = omega (arith, c .before .readings-of .ensures, c .befor
 
 rem-reading : tie.Need-rem-reading
 rem-reading c = width-positive (c .before .before .readings-of .result) (c .power2 .result) (c .power2 .ensures)
-
-stored-reply-requires : tie.Need-stored-reply-requires
-stored-reply-requires c κs = search needs
-
-controls-of-requires : tie.Need-controls-of-requires
-controls-of-requires c κs = search needs
 
 cast-move-of : tie.Need-cast-move-of
 cast-move-of c =
@@ -42,9 +30,6 @@ cast-t11 c =
     let u = c .before .before .before .before .readings-of in
     let w = c .before .before .power2 in
     record { fits = place-reading-fits (s .args .net .now) (s .pre .0) (s .args .place) (u .result) (w .result) (u .ensures) (w .ensures) }
-
-move-of-requires : tie.Need-move-of-requires
-move-of-requires c κs = search needs
 
 returns : tie.Need-returns
 returns c =
@@ -62,15 +47,15 @@ pub reply-move-spec : {M : Type 1} → statement M
 reply-move-spec =
     tie.close
     (tie.spec
-    latches-of-requires
-    readings-of-requires
+    (λ c κs. search needs)
+    (λ c κs. search needs)
     power-requires
     div-state
     power-requires-2
     rem-reading
-    stored-reply-requires
-    controls-of-requires
+    (λ c κs. search needs)
+    (λ c κs. search needs)
     cast-move-of
     cast-t11
-    move-of-requires
+    (λ c κs. search needs)
     returns)

@@ -23,9 +23,6 @@ power-requires c κs = omega arith
 loop-holds : tie.Need-loop-holds Inv-loop μ-loop
 loop-holds c = let a = c .before .before .args in unused-start (a .region .now) (2 ^ a .latches) (c .power .result) (c .power .ensures)
 
-byte-bit-requires : tie.Need-byte-bit-requires Inv-loop μ-loop
-byte-bit-requires c κs = search needs
-
 returns : tie.Need-returns Inv-loop μ-loop
 unfolding unusedBitSet
 returns c =
@@ -62,7 +59,7 @@ unused-bit-set-spec =
     mul-n
     power-requires
     loop-holds
-    byte-bit-requires
+    (λ c κs. search needs)
     returns
     add-i
     loop-less

@@ -7,16 +7,10 @@ use borrow.Author.Needs.{needs}
 use Rattle.records.proofs.passed.attack.Statement.{statement}
 use Rattle.records.proofs.passed.attack.Tie as tie
 
-tail-requires : tie.Need-tail-requires
-tail-requires c κs = search needs
-
-stored-attack-requires : tie.Need-stored-attack-requires
-stored-attack-requires c κs = search needs
-
 returns : tie.Need-returns
 returns c =
     let a = c .before .before .before .args in
     c .stored-attack .ensures ∙ ap (λ (l : List ℕ). storedAttack l (a .latches) (a .state)) (c .before .tail .ensures)
 
 pub attack-spec : {M : Type 1} → statement M
-attack-spec = tie.close (tie.spec tail-requires stored-attack-requires returns)
+attack-spec = tie.close (tie.spec (λ c κs. search needs) (λ c κs. search needs) returns)

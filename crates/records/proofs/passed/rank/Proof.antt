@@ -7,16 +7,10 @@ use borrow.Author.Needs.{needs}
 use Rattle.records.proofs.passed.rank.Statement.{statement}
 use Rattle.records.proofs.passed.rank.Tie as tie
 
-tail-requires : tie.Need-tail-requires
-tail-requires c κs = search needs
-
-stored-rank-requires : tie.Need-stored-rank-requires
-stored-rank-requires c κs = search needs
-
 returns : tie.Need-returns
 returns c =
     let a = c .before .before .before .args in
     c .stored-rank .ensures ∙ ap (λ (l : List ℕ). storedRank l (a .latches) (a .state)) (c .before .tail .ensures)
 
 pub rank-spec : {M : Type 1} → statement M
-rank-spec = tie.close (tie.spec tail-requires stored-rank-requires returns)
+rank-spec = tie.close (tie.spec (λ c κs. search needs) (λ c κs. search needs) returns)

@@ -7,16 +7,10 @@ use borrow.Author.Needs.{needs}
 use Rattle.records.proofs.passed.region_bit.Statement.{statement}
 use Rattle.records.proofs.passed.region_bit.Tie as tie
 
-tail-requires : tie.Need-tail-requires
-tail-requires c κs = search needs
-
-holds-state-requires : tie.Need-holds-state-requires
-holds-state-requires c κs = search needs
-
 returns : tie.Need-returns
 returns c =
     let a = c .before .before .before .args in
     c .holds-state .ensures ∙ ap (λ (l : List ℕ). holdsState l (a .latches) (a .state)) (c .before .tail .ensures)
 
 pub region-bit-spec : {M : Type 1} → statement M
-region-bit-spec = tie.close (tie.spec tail-requires holds-state-requires returns)
+region-bit-spec = tie.close (tie.spec (λ c κs. search needs) (λ c κs. search needs) returns)

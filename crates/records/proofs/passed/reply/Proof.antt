@@ -10,21 +10,12 @@ use borrow.Author.Needs.{needs}
 use Rattle.records.proofs.passed.reply.Statement.{statement}
 use Rattle.records.proofs.passed.reply.Tie as tie
 
-region-bit-requires : tie.Need-region-bit-requires
-region-bit-requires c κs = search needs
-
 returns : tie.Need-returns
 returns c =
     let a = c .before .before .before .args in
     let l = a .certificate .now in
     sym (reply-outside (drop (a .region) l) (drop (a .replies) l) (a .latches) (a .readings) (a .state) (a .reading)
     (sym (c .before .region-bit .ensures) ∙ not-true _ (c .if1 .taken)))
-
-tail-requires : tie.Need-tail-requires
-tail-requires c κs = search needs
-
-stored-reply-requires : tie.Need-stored-reply-requires
-stored-reply-requires c κs = search needs
 
 returns-2 : tie.Need-returns-2
 returns-2 c =
@@ -37,4 +28,4 @@ returns-2 c =
 
 pub reply-spec : {M : Type 1} → statement M
 reply-spec =
-    tie.close (tie.spec region-bit-requires returns tail-requires stored-reply-requires returns-2)
+    tie.close (tie.spec (λ c κs. search needs) returns (λ c κs. search needs) (λ c κs. search needs) returns-2)

@@ -7,20 +7,8 @@ use borrow.Author.Needs.{needs}
 use Rattle.records.proofs.passed.tail.Statement.{statement}
 use Rattle.records.proofs.passed.tail.Tie as tie
 
-slice-aggregate-result : tie.Need-slice-aggregate-result
-slice-aggregate-result c = search needs
-
 returns : tie.Need-returns
 returns c = let a = c .before .before .args in sym (drop-of-length-le (a .certificate .now) {i = a .start} (omega arith))
-
-sub-result : tie.Need-sub-result
-sub-result c = search needs
-
-part-result-start : tie.Need-part-result-start
-part-result-start c = search needs
-
-part-result-end : tie.Need-part-result-end
-part-result-end c = search needs
 
 returns-2 : tie.Need-returns-2
 returns-2 c =
@@ -32,9 +20,9 @@ pub tail-spec : {M : Type 1} → statement M
 tail-spec =
     tie.close
     (tie.spec
-    slice-aggregate-result
+    (λ c. search needs)
     returns
-    sub-result
-    part-result-start
-    part-result-end
+    (λ c. search needs)
+    (λ c. search needs)
+    (λ c. search needs)
     returns-2)

@@ -19,26 +19,11 @@ found c = found-record _ _ _ _ _ (sym (c .kind .given .1) ∙ c .before .before 
 abbrev contents : tie.After-kind → List ℕ
 contents c = part (c .kind .given .0 .1 .0) (c .kind .given .0 .1 .1 .0) (c .before .before .before .before .args .certificate .now)
 
-record-at-requires : tie.Need-record-at-requires
-record-at-requires c κs = search needs
-
-enum-known-kind : tie.Need-enum-known-kind
-enum-known-kind c = search needs
-
-enum-told : tie.Need-enum-told
-enum-told c = search needs
-
-slice-aggregate-result : tie.Need-slice-aggregate-result
-slice-aggregate-result c = search needs
-
 returns : tie.Need-returns
 unfolding circuitRecord circuitContents
 returns c =
     let a = c .before .before .before .before .before .args in
     sym (ap circuitContents (found-none (a .certificate .now) 0 (sym (c .before .enum-told .given .1) ∙ c .before .before .before .record-at .ensures)))
-
-slice-aggregate-result-2 : tie.Need-slice-aggregate-result-2
-slice-aggregate-result-2 c = search needs
 
 returns-2 : tie.Need-returns-2
 unfolding circuitRecord circuitContents
@@ -65,12 +50,12 @@ pub circuit-record-spec : {M : Type 1} → statement M
 circuit-record-spec =
     tie.close
     (tie.spec
-    record-at-requires
-    enum-known-kind
-    enum-told
-    slice-aggregate-result
+    (λ c κs. search needs)
+    (λ c. search needs)
+    (λ c. search needs)
+    (λ c. search needs)
     returns
-    slice-aggregate-result-2
+    (λ c. search needs)
     returns-2
     sub-result
     part-result-start

@@ -8,15 +8,9 @@ use borrow.Author.Needs.{needs}
 use Rattle.records.proofs.stored.holds_state.Statement.{statement}
 use Rattle.records.proofs.stored.holds_state.Tie as tie
 
-low-bits-requires : tie.Need-low-bits-requires
-low-bits-requires c κs = search needs
-
-byte-bit-requires : tie.Need-byte-bit-requires
-byte-bit-requires c κs = search needs
-
 returns : tie.Need-returns
 unfolding holdsState
 returns c = c .byte-bit .ensures ∙ ap (λ (n : ℕ). eqb (byteBit (c .before .before .before .args .bytes .now) n) 1) (c .before .low-bits .ensures)
 
 pub holds-state-spec : {M : Type 1} → statement M
-holds-state-spec = tie.close (tie.spec low-bits-requires byte-bit-requires returns)
+holds-state-spec = tie.close (tie.spec (λ c κs. search needs) (λ c κs. search needs) returns)

@@ -7,22 +7,10 @@ use borrow.Author.Needs.{needs}
 use Rattle.records.proofs.stored.in_row.Statement.{statement}
 use Rattle.records.proofs.stored.in_row.Tie as tie
 
-low-bits-requires : tie.Need-low-bits-requires
-low-bits-requires c κs = search needs
-
 returns : tie.Need-returns
 returns c =
     let a = c .before .before .before .args in
     sym (List·getD-eq-default (a .bytes .now) 0 {n = 3 * (a .state % 2 ^ (a .latches)) + a .part} (omega (arith, c .before .low-bits .ensures)))
-
-mul-byte-at : tie.Need-mul-byte-at
-mul-byte-at c = search needs
-
-add-byte-at : tie.Need-add-byte-at
-add-byte-at c = search needs
-
-byte-at-requires : tie.Need-byte-at-requires
-byte-at-requires c κs = search needs
 
 returns-2 : tie.Need-returns-2
 returns-2 c =
@@ -32,4 +20,4 @@ returns-2 c =
 pub in-row-spec : {M : Type 1} → statement M
 in-row-spec =
     tie.close
-    (tie.spec low-bits-requires returns mul-byte-at add-byte-at byte-at-requires returns-2)
+    (tie.spec (λ c κs. search needs) returns (λ c. search needs) (λ c. search needs) (λ c κs. search needs) returns-2)

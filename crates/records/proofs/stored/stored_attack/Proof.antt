@@ -4,12 +4,9 @@ use borrow.Author.Needs.{needs}
 use Rattle.records.proofs.stored.stored_attack.Statement.{statement}
 use Rattle.records.proofs.stored.stored_attack.Tie as tie
 
-in-row-requires : tie.Need-in-row-requires
-in-row-requires c κs = search needs
-
 returns : tie.Need-returns
 unfolding storedAttack
 returns c = c .in-row .ensures
 
 pub stored-attack-spec : {M : Type 1} → statement M
-stored-attack-spec = tie.close (tie.spec in-row-requires returns)
+stored-attack-spec = tie.close (tie.spec (λ c κs. search needs) returns)

@@ -10,24 +10,6 @@ use borrow.Author.Needs.{needs}
 use Rattle.records.proofs.stored.stored_rank.Statement.{statement}
 use Rattle.records.proofs.stored.stored_rank.Tie as tie
 
-in-row-requires : tie.Need-in-row-requires
-in-row-requires c κs = search needs
-
-in-row-requires-2 : tie.Need-in-row-requires-2
-in-row-requires-2 c κs = search needs
-
-cast-result : tie.Need-cast-result
-cast-result c = search needs
-
-cast-result-2 : tie.Need-cast-result-2
-cast-result-2 c = search needs
-
-mul-result : tie.Need-mul-result
-mul-result c = search needs
-
-add-result : tie.Need-add-result
-add-result c = search needs
-
 returns : tie.Need-returns
 unfolding storedRank sum
 returns c =
@@ -38,10 +20,10 @@ pub stored-rank-spec : {M : Type 1} → statement M
 stored-rank-spec =
     tie.close
     (tie.spec
-    in-row-requires
-    in-row-requires-2
-    cast-result
-    cast-result-2
-    mul-result
-    add-result
+    (λ c κs. search needs)
+    (λ c κs. search needs)
+    (λ c. search needs)
+    (λ c. search needs)
+    (λ c. search needs)
+    (λ c. search needs)
     returns)

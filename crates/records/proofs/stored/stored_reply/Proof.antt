@@ -11,15 +11,6 @@ use borrow.Author.Needs.{needs}
 use Rattle.records.proofs.stored.stored_reply.Statement.{statement}
 use Rattle.records.proofs.stored.stored_reply.Tie as tie
 
-low-bits-requires : tie.Need-low-bits-requires
-low-bits-requires c κs = search needs
-
-low-bits-requires-2 : tie.Need-low-bits-requires-2
-low-bits-requires-2 c κs = search needs
-
-byte-at-requires : tie.Need-byte-at-requires
-byte-at-requires c κs = search needs
-
 returns : tie.Need-returns
 returns c =
     let a = c .before .before .before .before .before .args in
@@ -35,9 +26,6 @@ returns-2 c =
     let column = c .before .before .low-bits2 in
     sym (stored-reply-far (a .bytes .now) (a .latches) (a .readings) (a .state) (a .reading) _ _ (row .ensures) (column .ensures) (omega arith)
     (c .if2 .taken) (omega arith))
-
-shl-width : tie.Need-shl-width
-shl-width c = search needs
 
 div-if3 : tie.Need-div-if3
 div-if3 c = let a = c .before .before .before .before .before .args in rw (power-by-shift (a .readings) (omega arith)) (pow-pos (a .readings))
@@ -74,9 +62,6 @@ add-byte-at c =
       c .before .before .before .low-bits2 .ensures,
     ))
 
-byte-at-requires-2 : tie.Need-byte-at-requires-2
-byte-at-requires-2 c κs = search needs
-
 returns-4 : tie.Need-returns-4
 returns-4 c =
     let a = c .before .before .before .before .before .before .before .args in
@@ -91,15 +76,15 @@ pub stored-reply-spec : {M : Type 1} → statement M
 stored-reply-spec =
     tie.close
     (tie.spec
-    low-bits-requires
-    low-bits-requires-2
-    byte-at-requires
+    (λ c κs. search needs)
+    (λ c κs. search needs)
+    (λ c κs. search needs)
     returns
     returns-2
-    shl-width
+    (λ c. search needs)
     div-if3
     returns-3
     mul-byte-at
     add-byte-at
-    byte-at-requires-2
+    (λ c κs. search needs)
     returns-4)
