@@ -13,7 +13,8 @@ ghost use Rattle.blocks.specs.Lane.{width, litsIn};
 pub(crate) fn put_gates(words: &mut [u64], net: &[u16], at: usize, first: usize)
     requires { ⌜ literals ≤ length (now words) ⌝ }
     requires { ⌜ first ≤ variables ⌝ }
-    ensures { λ _. ⌜ ((j : ℕ) → j < width → litsIn (now (words .exit)) j ≡ putGates (take (2 * (variables - first)) (drop at (now (net .entry)))) first (litsIn (now (words .entry)) j)) ⌝ }
+    ensures { λ _. ⌜ ((j : ℕ) → j < width → litsIn (now (words .exit)) j
+        ≡ putGates (take (2 * (variables - first)) (drop at (now (net .entry)))) first (litsIn (now (words .entry)) j)) ⌝ }
 {
     let start = below::fewer(at, net.len());
     let n = below::fewer((net.len() - start) / 2, LITERALS / 2 - first);

@@ -14,7 +14,8 @@ ghost use Rattle.blocks.specs.Lane.{width, lane, moveIn, litsIn};
 pub(crate) fn put_move(words: &mut [u64], block: usize, n: usize)
     requires { ⌜ literals ≤ length (now words) ⌝ }
     requires { ⌜ n ≤ variables ⌝ }
-    ensures { λ _. ⌜ ((bits j : ℕ) → n ≤ bits + 1 → j < width → litsIn (now (words .exit)) j ≡ putFirst n (withMove bits (moveIn block j)) (litsIn (now (words .entry)) j)) ⌝ }
+    ensures { λ _. ⌜ ((bits j : ℕ) → n ≤ bits + 1 → j < width → litsIn (now (words .exit)) j
+        ≡ putFirst n (withMove bits (moveIn block j)) (litsIn (now (words .entry)) j)) ⌝ }
 {
     let mut v = 0;
     while v < n {

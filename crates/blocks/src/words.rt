@@ -1,6 +1,6 @@
 // Words, one for each literal: looked up, and put for both literals of a variable.
 use crate::LITERALS;
-ghost use Prim.Native.Nat.{ℕ, _+_, _*_, _%_, _<_, _≤_};
+ghost use Prim.Native.Nat.{ℕ, _+_, _*_, _%_, _<_};
 ghost use mathlib.Core.Path.{_≡_};
 ghost use lib.ListN.{length, getD};
 ghost use Rattle.blocks.specs.Evaluated.{literals, putBoth};

@@ -43,7 +43,8 @@ pub(crate) fn name_inputs<'a>(
     requires { ⌜ inputs ≤ length (now input) ⌝ }
     requires { ⌜ inputs ≤ base .inputs ⌝ }
     requires { ⌜ controls ≤ inputs ⌝ }
-    ensures { λ _. ⌜ namesIn (now (names .exit)) ≡ nameInputs (inputsOf (take inputs (now (input .entry))) (now (controllable .entry))) 1 (1 + controls) (namesIn (now (names .entry))) ⌝ }
+    ensures { λ _. ⌜ namesIn (now (names .exit))
+        ≡ nameInputs (inputsOf (take inputs (now (input .entry))) (now (controllable .entry))) 1 (1 + controls) (namesIn (now (names .entry))) ⌝ }
 {
     let mut k: usize = 1;
     let mut r = 1 + controls;
@@ -69,7 +70,8 @@ pub(crate) fn name_latches<'a>(
     requires { ⌜ latches ≤ length (now latch) ⌝ }
     requires { ⌜ latches ≤ base .latches ⌝ }
     requires { ⌜ inputs ≤ base .inputs ⌝ }
-    ensures { λ _. ⌜ namesIn (now (names .exit)) ≡ nameLatches (latchesOf (take latches (now (latch .entry))) (now (next .entry))) (1 + inputs) (namesIn (now (names .entry))) ⌝ }
+    ensures { λ _. ⌜ namesIn (now (names .exit))
+        ≡ nameLatches (latchesOf (take latches (now (latch .entry))) (now (next .entry))) (1 + inputs) (namesIn (now (names .entry))) ⌝ }
 {
     let mut i = 0;
     while i < latches {

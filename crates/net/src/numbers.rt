@@ -41,8 +41,12 @@ pub(crate) fn put_gates<'a>(
     requires { ⌜ inputs ≤ base .inputs ⌝ }
     requires { ⌜ 4 + latches + 2 * gates ≤ length (now numbers) ⌝ }
     requires { ⌜ ((u : ℕ) → namesIn (now names) u < 1 + inputs + latches) ⌝ }
-    ensures { λ _. ⌜ now (numbers .exit) ≡ sets (now (numbers .entry)) (4 + latches) (operandsOf (gatesOf (take gates (now (gate .entry))) (now (left .entry)) (now (right .entry))) (1 + inputs + latches) (namesIn (now (names .entry)))) ⌝ }
-    ensures { λ _. ⌜ namesIn (now (names .exit)) ≡ nameGates (gatesOf (take gates (now (gate .entry))) (now (left .entry)) (now (right .entry))) (1 + inputs + latches) (namesIn (now (names .entry))) ⌝ }
+    ensures { λ _. ⌜ now (numbers .exit) ≡ sets (now (numbers .entry)) (4 + latches)
+        (operandsOf (gatesOf (take gates (now (gate .entry))) (now (left .entry)) (now (right .entry))) (1 + inputs + latches)
+        (namesIn (now (names .entry)))) ⌝ }
+    ensures { λ _. ⌜ namesIn (now (names .exit)) ≡ nameGates
+        (gatesOf (take gates (now (gate .entry))) (now (left .entry)) (now (right .entry))) (1 + inputs + latches)
+        (namesIn (now (names .entry))) ⌝ }
 {
     let mut v = 1 + inputs + latches;
     let mut at = 4 + latches;
@@ -71,7 +75,8 @@ pub(crate) fn put_nexts<'a>(
     requires { ⌜ latches ≤ base .latches ⌝ }
     requires { ⌜ 4 + latches ≤ length (now numbers) ⌝ }
     requires { ⌜ ((v : ℕ) → namesIn (now names) v < variables) ⌝ }
-    ensures { λ _. ⌜ now (numbers .exit) ≡ sets (now (numbers .entry)) 4 (map (λ (l : Latch). netLiteral (namesIn (now (names .entry))) (l .next)) (latchesOf (take latches (now (latch .entry))) (now (next .entry)))) ⌝ }
+    ensures { λ _. ⌜ now (numbers .exit) ≡ sets (now (numbers .entry)) 4
+        (map (λ (l : Latch). netLiteral (namesIn (now (names .entry))) (l .next)) (latchesOf (take latches (now (latch .entry))) (now (next .entry)))) ⌝ }
 {
     let mut i = 0;
     while i < latches {

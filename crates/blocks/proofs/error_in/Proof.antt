@@ -1,6 +1,6 @@
 -- `blocks::error_in` meets its contract: the lane of the output's word.
 use borrow.Author.Needs.{needs}
-use mathlib.Core.Path.{_≡_, refl, sym, ap, _∙_, subst}
+use mathlib.Core.Path.{ap, _∙_}
 use Prim.Native.Nat.{ℕ, _%_}
 use lib.ListN.{getD}
 use Rattle.net.specs.Net.{netOutput}

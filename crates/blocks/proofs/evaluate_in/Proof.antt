@@ -1,8 +1,5 @@
 -- `blocks::evaluate_in` meets its contract: the bits of the move, then the gates.
 use borrow.Author.Needs.{needs}
-use native.Mathlib.Omega.{arith}
-use mathlib.Core.Path.{_≡_, refl, sym, ap, _∙_, subst}
-use Prim.Native.Nat.{ℕ, _+_}
 use Rattle.net.specs.Net.{moveBits}
 use Rattle.blocks.specs.Lane.{moveIn, litsIn}
 use Rattle.blocks.proofs.laws.LookUp.{first-gate-few, first-gate-moved, evaluated-so}

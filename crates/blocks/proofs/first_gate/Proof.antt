@@ -1,6 +1,6 @@
 -- `blocks::first_gate` meets its contract: the bits of a move are counted by the first three numbers.
 use borrow.Author.Needs.{needs}
-use mathlib.Core.Path.{_≡_, refl, sym, ap, _∙_, subst}
+use mathlib.Core.Path.{_∙_}
 use Rattle.blocks.proofs.laws.LookUp.{first-gate}
 use Rattle.blocks.proofs.first_gate.Statement.{statement}
 use Rattle.blocks.proofs.first_gate.Tie as tie

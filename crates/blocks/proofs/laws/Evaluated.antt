@@ -1,20 +1,20 @@
 -- A net in order, evaluated, says the net's step, whatever the truths were before: each literal that is looked up was put before. Assumes
 -- nothing.
-use Prim.Native.Nat.{ℕ, zero, suc, _+_, _*_, _-_, _/_, _%_, _<_, _≤_, min}
+use Prim.Native.Nat.{ℕ, zero, suc, _+_, _*_, _-_, _/_, _%_, _<_, _≤_}
 use native.Mathlib.Omega.{arith}
-use native.Mathlib.Decide.{decLt, ℕ-discrete}
+use native.Mathlib.Decide.{ℕ-discrete}
 use mathlib.Core.Bool.{Bool, true, false, cond, not, _&&_}
 use mathlib.Core.List.{List, [], _∷_, map}
 use mathlib.Core.Logic.{_≢_}
 use mathlib.Core.Path.{_≡_, refl, sym, ap, ap₂, _∙_}
-use lib.Dec.{eqb, leb}
+use lib.Dec.{eqb}
 use lib.ListN.{length, take, drop, length-take}
 use lib.Seq.{take-all}
-use borrow.Author.Tests.{eq-eqb, ne-eqb, le-leb, lt-leb}
+use borrow.Author.Tests.{eq-eqb, ne-eqb, lt-leb}
 use Rattle.bits.specs.Bit.{odd, oneIf}
 use Rattle.bits.specs.Digits.{sum}
 use Rattle.circuit.specs.Limits.{base}
-use Rattle.circuit.specs.Literal.{variable, inverted, constant}
+use Rattle.circuit.specs.Literal.{variable, inverted}
 use Rattle.net.specs.InOrder.{InOrder, AllBefore, GatesInOrder, variables}
 use Rattle.net.specs.Net.{netOutput, netNexts, netOperands, netLatches, moveBits, withMove, withOperands, netValues, netError, netNext}
 use Rattle.net.proofs.laws.Move.{with-move-none}

@@ -3,7 +3,7 @@ use Prim.Native.Nat.{ℕ, zero, suc, _+_, _*_, _-_, _/_, _%_, _^_, _<_, _≤_, m
 use native.Mathlib.Omega.{arith}
 use native.Mathlib.Nat.{div-one, mul-comm, pow-suc, div-div-eq-div-mul, div-eq-of-lt, not-suc-le-zero, le-of-suc-le-suc, pow-le-pow-right, zero-min}
 use mathlib.Core.Bool.{true, false, not, _&&_}
-use mathlib.Core.Path.{_≡_, refl, sym, ap, _∙_}
+use mathlib.Core.Path.{_≡_, sym, ap, _∙_}
 use lib.Bits.{bitAnd, bitXor, and-step, xor-step, differ}
 use lib.Dec.{eqb}
 use lib.Pow.{pow-pos}

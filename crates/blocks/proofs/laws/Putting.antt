@@ -1,13 +1,12 @@
 -- Words put one variable after the other, seen in each lane. Assumes nothing.
-use Prim.Native.Nat.{ℕ, zero, suc, _+_, _*_, _-_, _/_, _%_, _^_, _<_, _≤_, min}
+use Prim.Native.Nat.{ℕ, suc, _+_, _*_, _-_, _/_, _%_, _^_, _<_, _≤_, min}
 use native.Mathlib.Omega.{arith}
 use native.Mathlib.Decide.{decLt, ℕ-discrete}
-use native.Mathlib.Numerals.{add-one}
 use mathlib.Core.Bool.{Bool, true, false, cond, not, _&&_}
-use mathlib.Core.List.{List, [], _∷_, map}
+use mathlib.Core.List.{List, [], _∷_}
 use mathlib.Core.Logic.{_≢_}
-use mathlib.Core.Path.{_≡_, refl, sym, ap, ap₂, _∙_, fun-ext}
-use lib.Bits.{bitXor, bitAnd}
+use mathlib.Core.Path.{_≡_, refl, sym, ap, _∙_, fun-ext}
+use lib.Bits.{bitXor}
 use lib.Dec.{eqb, leb}
 use lib.ListN.{length, getD, set, take, drop, length-set, length-take, length-drop}
 use lib.Seq.{getD-set-same, getD-set-other, getD-take, getD-drop, drop-cons}
@@ -16,11 +15,10 @@ use Rattle.bits.specs.Bit.{odd}
 use Rattle.circuit.specs.Literal.{variable, inverted}
 use Rattle.net.specs.InOrder.{variables}
 use Rattle.net.specs.Net.{withMove}
-use Rattle.net.proofs.laws.Move.{with-move-at, with-move-none}
 use Rattle.step.specs.Value.{Valuation}
 use Rattle.blocks.specs.Evaluated.{literals, putBoth, putFirst, putGates}
 use Rattle.blocks.specs.Lane.{width, lane, moveIn, Truths, litsIn}
-use Rattle.blocks.proofs.laws.Lane.{lane-other, lane-and}
+use Rattle.blocks.proofs.laws.Lane.{lane-other}
 
 even-double : (v : ℕ) → odd (2 * v) ≡ false
 unfolding odd

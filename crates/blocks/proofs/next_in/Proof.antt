@@ -1,8 +1,8 @@
 -- `blocks::next_in` meets its contract: the bits from k on add up to the state, and k counts down to 0.
 use borrow.Author.Needs.{needs}
 use native.Mathlib.Omega.{arith}
-use mathlib.Core.Path.{_≡_, refl, sym, ap, _∙_, subst}
-use Prim.Native.Nat.{ℕ, _+_, _-_, _%_, _^_, _<_, _≤_, min}
+use mathlib.Core.Path.{_≡_, sym, ap, _∙_, subst}
+use Prim.Native.Nat.{ℕ, _-_, _%_, _^_, _<_, _≤_, min}
 use native.Mathlib.Nat.{pow-le-pow-right}
 use mathlib.Core.List.{List}
 use lib.ListN.{length, getD}

@@ -1,7 +1,7 @@
 -- `blocks::nexts` meets its contract: no more than there are numbers, and latches of a circuit.
 use borrow.Author.Needs.{needs}
-use mathlib.Core.Path.{_≡_, refl, sym, ap, _∙_, subst}
-use Prim.Native.Nat.{ℕ, _-_, min}
+use mathlib.Core.Path.{_∙_}
+use Prim.Native.Nat.{_-_, min}
 use lib.ListN.{length}
 use Rattle.blocks.proofs.laws.LookUp.{next-count}
 use Rattle.blocks.proofs.nexts.Statement.{statement}

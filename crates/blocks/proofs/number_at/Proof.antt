@@ -1,6 +1,6 @@
 -- `blocks::number_at` meets its contract: a number that isn't there counts as 0.
 use borrow.Author.Needs.{needs}
-use mathlib.Core.Path.{_≡_, refl, sym, ap, _∙_, subst}
+use mathlib.Core.Path.{sym}
 use lib.ListN.{List·getD-eq-default}
 use Rattle.blocks.proofs.number_at.Statement.{statement}
 use Rattle.blocks.proofs.number_at.Tie as tie

@@ -1,6 +1,5 @@
 -- `blocks::one_if` meets its contract by the definition of oneIf.
-use borrow.Author.Needs.{needs}
-use mathlib.Core.Path.{_≡_, refl, sym, ap, _∙_, subst}
+use mathlib.Core.Path.{sym, ap}
 use Rattle.bits.specs.Bit.{oneIf}
 use Rattle.blocks.proofs.one_if.Statement.{statement}
 use Rattle.blocks.proofs.one_if.Tie as tie

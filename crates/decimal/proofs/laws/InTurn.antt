@@ -18,4 +18,5 @@ module _ {A : Type 0} where
   pub flat-map-table : (f : A → List ℕ) (row : ℕ → A) (n : ℕ) → flatMap f (table row n) ≡ inTurn (λ i. f (row i)) n
   unfolding table inTurn flatMap
   flat-map-table f row zero = refl
-  flat-map-table f row (suc n) = flat-map-append f (table row n) (row n ∷ []) ∙ ap₂ {C = List ℕ} (λ xs ys. xs ++ ys) (flat-map-table f row n) (flat-map-one f (row n))
+  flat-map-table f row (suc n) =
+      flat-map-append f (table row n) (row n ∷ []) ∙ ap₂ {C = List ℕ} (λ xs ys. xs ++ ys) (flat-map-table f row n) (flat-map-one f (row n))

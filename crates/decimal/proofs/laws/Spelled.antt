@@ -29,8 +29,16 @@ length-spelled (suc k) n = length-append (spelled k (n / 10)) ((48 + n % 10) ∷
 -- all the digits of a number are the number
 pub spelled-decimal : (k n : ℕ) → length (decimal n) ≡ k → spelled k n ≡ decimal n
 unfolding spelled
-spelled-decimal zero n e = elim (decLt n 10) [ yes s ↦ absurd (omega (arith, length-decimal-small n s)) | no m ↦ absurd (omega (arith, length-decimal-more n (omega arith))) ]
-spelled-decimal (suc k) n e = elim (decLt n 10) [ yes s ↦ one s k (omega (arith, length-decimal-small n s)) | no m ↦ more (omega arith) (spelled-decimal k (n / 10) (omega (arith, length-decimal-more n (omega arith)))) ]
+spelled-decimal zero n e =
+    elim (decLt n 10) [
+      | yes s ↦ absurd (omega (arith, length-decimal-small n s))
+      | no m ↦ absurd (omega (arith, length-decimal-more n (omega arith)))
+    ]
+spelled-decimal (suc k) n e =
+    elim (decLt n 10) [
+      | yes s ↦ one s k (omega (arith, length-decimal-small n s))
+      | no m ↦ more (omega arith) (spelled-decimal k (n / 10) (omega (arith, length-decimal-more n (omega arith))))
+    ]
   where
     one : n < 10 → (j : ℕ) → j ≡ 0 → spelled j (n / 10) ++ ((48 + n % 10) ∷ []) ≡ decimal n
     one s j z = let low : n % 10 ≡ n = omega arith in rw (z, decimal-small n s, low)
@@ -39,7 +47,9 @@ spelled-decimal (suc k) n e = elim (decLt n 10) [ yes s ↦ one s k (omega (arit
     more m r = ap (λ (ds : List ℕ). ds ++ ((48 + n % 10) ∷ [])) r ∙ sym (decimal-more n m)
 
 -- a turn: the last digit is stored, and those before it are left
-pub spell-digit : (l : List ℕ) (at left n d : ℕ) → 0 < left → d ≡ 48 + n % 10 → sets (set l (at + (left - 1)) d) at (spelled (left - 1) (n / 10)) ≡ sets l at (spelled left n)
+pub spell-digit :
+    (l : List ℕ) (at left n d : ℕ) → 0 < left → d ≡ 48 + n % 10
+    → sets (set l (at + (left - 1)) d) at (spelled (left - 1) (n / 10)) ≡ sets l at (spelled left n)
 unfolding spelled
 spell-digit l at zero n d h e = absurd (not-suc-le-zero h)
 spell-digit l at (suc k) n d h e = rw (sub-one, e) (sym (last (spelled k (n / 10)) (length-spelled k (n / 10))))

@@ -23,7 +23,9 @@ returns : tie.Need-returns
 returns c =
     let a = c .before .before .before .before .before .before .before .before .args in (
       c .before .before .before .before .before .before .decimal-length .ensures,
-      c .before .before .spell .ensures ∙ sym (put-fits (a .out .now) (a .at) (decimal (a .n)) (omega (arith, c .before .before .before .before .before .before .decimal-length .ensures))),
+      c .before .before .spell .ensures
+          ∙ sym
+          (put-fits (a .out .now) (a .at) (decimal (a .n)) (omega (arith, c .before .before .before .before .before .before .decimal-length .ensures))),
     )
 
 returns-2 : tie.Need-returns-2

@@ -16,11 +16,14 @@ use Rattle.file.specs.CircuitIn.{circuitIn}
 use Rattle.file.specs.WriterRow.{WriterRow, ofFile, ten}
 
 -- what is told of an outcome is refused exactly where the outcome is
-pub told-refused : {A B : Type 0} (o : Outcome A) (f : A → B) (number place : ℕ) → ((o >>= λ a. taken (f a)) ≡ refused number place) ↔ (o ≡ refused number place)
+pub told-refused :
+    {A B : Type 0} (o : Outcome A) (f : A → B) (number place : ℕ) → ((o >>= λ a. taken (f a)) ≡ refused number place) ↔ (o ≡ refused number place)
 told-refused (taken a) f number place = (λ e. absurd (taken-is-not-refused number place (f a) e), λ e. absurd (taken-is-not-refused number place a e))
 told-refused (refused m q) f number place = (λ e. moved m q number place e, λ e. moved m q number place e)
 
-pub reader-refused-exactly : (file : List ℕ) (r : FileRead) (number place : ℕ) → ReadAs (circuitIn file) r → (readOutcome (r .answer) ≡ refused number place) ↔ (circuitIn file ≡ refused number place)
+pub reader-refused-exactly :
+    (file : List ℕ) (r : FileRead) (number place : ℕ) → ReadAs (circuitIn file) r
+    → (readOutcome (r .answer) ≡ refused number place) ↔ (circuitIn file ≡ refused number place)
 reader-refused-exactly file r number place w =
     let both = told-refused (circuitIn file) (λ c. tt) number place in
     (λ e. both .0 (sym (w .answer) ∙ e), λ e. w .answer ∙ both .1 e)
@@ -28,7 +31,11 @@ reader-refused-exactly file r number place w =
 module _ (file : List ℕ) (bytes : Circuit → List ℕ) (room number place : ℕ) where
   row-of : (o : Outcome Circuit) → circuitIn file ≡ o → (o >>= λ c. fitted (bytes c) room) ≡ refused number place → WriterRow file bytes room number place
   row-of (refused m q) read e = ofFile (read ∙ moved m q number place e)
-  row-of (taken c) read e = elim (decLt room (length (bytes c))) [ yes h ↦ short h (sym (fitted-refused (bytes c) room h) ∙ e) | no h ↦ absurd (taken-is-not-refused number place (bytes c) (sym (fitted-taken (bytes c) room (omega arith)) ∙ e)) ]
+  row-of (taken c) read e =
+      elim (decLt room (length (bytes c))) [
+        | yes h ↦ short h (sym (fitted-refused (bytes c) room h) ∙ e)
+        | no h ↦ absurd (taken-is-not-refused number place (bytes c) (sym (fitted-taken (bytes c) room (omega arith)) ∙ e))
+      ]
     where
       short : room < length (bytes c) → _≡_ {A = Outcome (List ℕ)} (refused noRoom 0) (refused number place) → WriterRow file bytes room number place
       short h f = let n : number ≡ noRoom = cc in let p : place ≡ 0 = cc in ten n p c read h

@@ -7,8 +7,8 @@ use Rattle.circuit.specs.Circuit.{Circuit}
 use Rattle.circuit.specs.declared.FileRead.{FileRead}
 use Rattle.circuit.specs.declared.Read.the-variants.{Taken, Refused}
 use Rattle.circuit.specs.declared.Refusal.{Refusal}
-use Rattle.circuit.specs.Outcome.{Outcome, taken, refused, _>>=_}
-use Rattle.circuit.specs.Stored.{meant, stored, solvable}
+use Rattle.circuit.specs.Outcome.{Outcome, taken, refused}
+use Rattle.circuit.specs.Stored.{meant, solvable}
 use Rattle.file.specs.CircuitIn.{circuitIn}
 use Rattle.text.proofs.laws.Fits.{read-meant, read-solvable}
 use Rattle.text.proofs.laws.Outcome.{refused-is-not-taken, taken-is-not-refused, moved}

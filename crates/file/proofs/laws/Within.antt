@@ -25,7 +25,9 @@ module _ (f : TextFile) where
   unfolding latchCount circuitOf
   latches-of = refl
 
-  few-of : tooMany base (circuitOf f) ≡ false → (uncontrollableCount (circuitOf f) ≤ base .uncontrollable) × (controllableCount (circuitOf f) ≤ base .controllable)
+  few-of :
+      tooMany base (circuitOf f) ≡ false
+      → (uncontrollableCount (circuitOf f) ≤ base .uncontrollable) × (controllableCount (circuitOf f) ≤ base .controllable)
   unfolding tooMany
   few-of e = few-are (uncontrollableCount (circuitOf f)) (controllableCount (circuitOf f)) e
 

@@ -1,18 +1,14 @@
 -- The net of a circuit that fits is in order, and a value of the code always stands for one that fits. Assumes nothing.
-use Prim.Native.Nat.{ℕ, suc, _+_, _*_, _<_, _≤_, min}
+use Prim.Native.Nat.{suc, _+_, _≤_}
 use native.Mathlib.Omega.{arith}
-use mathlib.Core.Bool.{not}
-use mathlib.Core.List.{List, map}
-use mathlib.Core.Path.{_≡_, refl, sym, ap, _∙_, subst}
-use lib.ListN.{length, take, length-append, length-map, length-take}
-use Rattle.below.proofs.laws.Table.{length-table}
-use Rattle.circuit.specs.Circuit.{Circuit, Input, Latch, inputsThat, latchCount, uncontrollableCount, controllableCount}
+use mathlib.Core.List.{map}
+use mathlib.Core.Path.{refl}
+use lib.ListN.{length, length-append, length-map}
+use Rattle.circuit.specs.Circuit.{Circuit, Input, Latch, latchCount, uncontrollableCount, controllableCount}
 use Rattle.circuit.specs.Limits.{base}
-use Rattle.circuit.specs.Stored.{meant, lent, inputsOf, latchesOf, gatesOf}
-use Rattle.circuit.specs.declared.Circuit.{Circuit as Value}
 use Rattle.circuit.proofs.laws.Inputs.{inputs-parted}
-use Rattle.net.specs.InOrder.{InOrder, AllBefore, GatesInOrder, variables}
-use Rattle.net.specs.Net.{netOutput, netNexts, netOperands, netLatches, moveBits}
+use Rattle.net.specs.InOrder.{InOrder, GatesInOrder}
+use Rattle.net.specs.Net.{netOperands, netLatches, moveBits}
 use Rattle.net.specs.NetOf.{netLiteral, operandsOf, firstNames, allNames, gateStart, netOf}
 use Rattle.net.proofs.laws.Names.{literal-before, operands-in-order, nexts-before}
 use Rattle.net.proofs.laws.NetStep.{net-latches, net-output, net-move-bits, net-nexts, net-operands, first-below, all-below}

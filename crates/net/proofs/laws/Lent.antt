@@ -1,16 +1,16 @@
 -- A net that was made and is lent as long as it is, is the net of the circuit, in order. Assumes nothing.
-use Prim.Native.Nat.{ℕ, _+_, _*_, _≤_, min}
+use Prim.Native.Nat.{ℕ, _≤_, min}
 use native.Mathlib.Omega.{arith}
-use mathlib.Core.List.{List, _++_, map}
-use mathlib.Core.Path.{_≡_, sym, ap, _∙_, subst}
+use mathlib.Core.List.{List, map}
+use mathlib.Core.Path.{_≡_, sym, ap, _∙_}
 use lib.ListN.{length, getD, take, drop, length-append, length-map, length-take}
-use lib.Seq.{sets, take-at}
+use lib.Seq.{take-at}
 use Rattle.below.specs.Table.{table}
 use Rattle.below.proofs.laws.Table.{length-table}
 use Rattle.bits.proofs.laws.Wrote.{sets-front}
 use Rattle.circuit.specs.Circuit.{Circuit, Latch, Gate}
 use Rattle.circuit.specs.Limits.{base}
-use Rattle.circuit.specs.Stored.{meant, lent, inputsOf, latchesOf, gatesOf, literalOf}
+use Rattle.circuit.specs.Stored.{meant, lent, latchesOf, gatesOf, literalOf}
 use Rattle.circuit.specs.declared.Circuit.{Circuit as Value}
 use Rattle.circuit.proofs.laws.Inputs.{length-inputs}
 use Rattle.net.specs.InOrder.{InOrder}

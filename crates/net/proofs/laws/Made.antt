@@ -1,9 +1,8 @@
 -- What is put and named adds up to the net: operands, then next-state literals, then the head, over zeros. Assumes nothing.
-use Prim.Native.Nat.{ℕ, zero, suc, _+_, _*_, _-_, _<_, _≤_, min}
+use Prim.Native.Nat.{ℕ, suc, _+_, _*_, _-_, _≤_, min}
 use native.Mathlib.Omega.{arith}
-use mathlib.Core.Bool.{not}
 use mathlib.Core.List.{List, [], _∷_, _++_, map}
-use mathlib.Core.Path.{_≡_, refl, sym, ap, ap₂, _∙_, subst}
+use mathlib.Core.Path.{_≡_, refl, sym, ap, _∙_}
 use lib.ListN.{length, getD, set, take, drop, replicate, length-append, length-map, length-take, length-drop, length-replicate, getD-replicate}
 use lib.Seq.{sets, ext-getD, getD-take, getD-drop, take-append-add}
 use Rattle.below.specs.Table.{table}

@@ -1,13 +1,13 @@
 -- The bits of a move: the control's, then the reading's, then the state's; and the variables that stand for them. Assumes nothing.
-use Prim.Native.Nat.{ℕ, suc, _+_, _*_, _-_, _/_, _%_, _^_, _<_, _≤_}
+use Prim.Native.Nat.{ℕ, suc, _+_, _*_, _-_, _/_, _%_, _^_, _<_}
 use native.Mathlib.Omega.{arith}
 use native.Mathlib.Nat.{mod-lt}
-use mathlib.Core.Bool.{Bool, false}
+use mathlib.Core.Bool.{false}
 use mathlib.Core.Path.{_≡_, refl, sym, ap, _∙_}
 use lib.Dec.{eqb}
 use lib.Arith.{digits-lt}
 use lib.Pow.{pow-pos, pow-lt, pow-add, shl-exact, shr-shr, high, low}
-use borrow.Author.Tests.{le-leb, lt-leb}
+use borrow.Author.Tests.{le-leb}
 use Rattle.bits.specs.Bit.{bit, odd}
 use Rattle.bits.proofs.laws.Bit.{bit-mod}
 use Rattle.net.specs.Move.{moveOf}

@@ -2,14 +2,13 @@
 -- and gate. A gate's own variable is behind all names given before it, so what it puts there changes none of them. Assumes nothing.
 use Prim.Native.Nat.{ℕ, zero, suc, _+_, _*_, _/_, _%_, _^_, _<_, _≤_}
 use native.Mathlib.Omega.{arith}
-use native.Mathlib.Decide.{decLt, ℕ-discrete}
+use native.Mathlib.Decide.{decLt}
 use native.Mathlib.Nat.{div-one}
 use mathlib.Core.Bool.{Bool, true, false, cond, not, _&&_}
-use mathlib.Core.List.{List, [], _∷_, _++_, map}
-use mathlib.Core.Logic.{_≢_}
+use mathlib.Core.List.{List, [], _∷_, map}
 use mathlib.Core.Path.{_≡_, refl, sym, ap, ap₂, _∙_}
 use lib.Dec.{eqb, ltb}
-use lib.ListN.{length, take, drop, length-map}
+use lib.ListN.{length, length-map}
 use lib.Pow.{shr-shr}
 use lib.Seq.{take-at, drop-at}
 use borrow.Author.Tests.{eq-eqb, ne-eqb, lt-ltb, le-ltb}
@@ -17,27 +16,12 @@ use Rattle.bits.specs.Bit.{odd, oneIf}
 use Rattle.bits.specs.Digits.{sum}
 use Rattle.circuit.specs.Circuit.{Circuit, Input, Latch, Gate, inputsThat, latchCount, uncontrollableCount, controllableCount}
 use Rattle.circuit.specs.Literal.{variable, inverted, constant}
-use Rattle.step.specs.declared.Stepped.{Stepped}
 use Rattle.step.specs.Step.{step, errorOf, nextOf}
 use Rattle.step.specs.Value.{Valuation, valuation, literalValue, put, withInputs, withLatches, withGates}
 use Rattle.step.proofs.laws.Truths.{one-if-bit}
 use Rattle.step.proofs.laws.Value.{value-constant, value-inverted, value-plain}
 use Rattle.net.specs.Move.{moveOf}
-use Rattle.net.specs.Net.{
-  netControls,
-  netReadings,
-  netLatches,
-  netOutput,
-  netNexts,
-  netOperands,
-  moveBits,
-  withMove,
-  withOperands,
-  netValues,
-  netError,
-  netNext,
-  netStep,
-}
+use Rattle.net.specs.Net.{netControls, netReadings, netLatches, netOutput, netNexts, netOperands, moveBits, withMove, withOperands, netValues, netError, netNext, netStep}
 use Rattle.net.specs.NetOf.{Names, name, netLiteral, nameInputs, nameLatches, nameGates, operandsOf, firstNames, allNames, gateStart, netOf}
 use Rattle.net.proofs.laws.Move.{control-bit, reading-bit, state-bit, with-move-at, with-move-none}
 use Rattle.net.proofs.laws.Names.{Below, name-below, below-more, inputs-below, latches-below, gates-below}

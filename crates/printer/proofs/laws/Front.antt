@@ -10,7 +10,7 @@ use Rattle.circuit.specs.declared.Read.the-variants.{Taken, Refused as ReadRefu
 use Rattle.circuit.specs.declared.Refusal.{Refusal}
 use Rattle.circuit.specs.declared.Written.{Written}
 use Rattle.circuit.specs.declared.Written.the-variants.{Refused}
-use Rattle.circuit.specs.Outcome.{Outcome, taken, refused, _>>=_}
+use Rattle.circuit.specs.Outcome.{Outcome, refused, _>>=_}
 use Rattle.circuit.specs.Stored.{meant}
 use Rattle.file.specs.CircuitIn.{circuitIn}
 use Rattle.file.proofs.laws.Read.{Means, taken-means, refused-means}

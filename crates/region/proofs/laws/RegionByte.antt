@@ -32,7 +32,12 @@ unfolding oneIf
 bit-past ranks states s h = sym (ap (λ (a : Bool). oneIf (a && rankZero ranks s)) (le-ltb s states h))
 
 module _ (set : ℕ → Bool) (states j : ℕ) where
-  pub byte-of : (b0 b1 b2 b3 b4 b5 b6 b7 : ℕ) → b0 ≡ oneIf (ltb (8 * j) states && set (8 * j)) → b1 ≡ oneIf (ltb (8 * j + 1) states && set (8 * j + 1)) → b2 ≡ oneIf (ltb (8 * j + 2) states && set (8 * j + 2)) → b3 ≡ oneIf (ltb (8 * j + 3) states && set (8 * j + 3)) → b4 ≡ oneIf (ltb (8 * j + 4) states && set (8 * j + 4)) → b5 ≡ oneIf (ltb (8 * j + 5) states && set (8 * j + 5)) → b6 ≡ oneIf (ltb (8 * j + 6) states && set (8 * j + 6)) → b7 ≡ oneIf (ltb (8 * j + 7) states && set (8 * j + 7)) → b0 + 2 * (b1 + 2 * (b2 + 2 * (b3 + 2 * (b4 + 2 * (b5 + 2 * (b6 + 2 * b7)))))) ≡ bitByte set states j
+  pub byte-of :
+      (b0 b1 b2 b3 b4 b5 b6 b7 : ℕ) → b0 ≡ oneIf (ltb (8 * j) states && set (8 * j)) → b1 ≡ oneIf (ltb (8 * j + 1) states && set (8 * j + 1))
+      → b2 ≡ oneIf (ltb (8 * j + 2) states && set (8 * j + 2)) → b3 ≡ oneIf (ltb (8 * j + 3) states && set (8 * j + 3))
+      → b4 ≡ oneIf (ltb (8 * j + 4) states && set (8 * j + 4)) → b5 ≡ oneIf (ltb (8 * j + 5) states && set (8 * j + 5))
+      → b6 ≡ oneIf (ltb (8 * j + 6) states && set (8 * j + 6)) → b7 ≡ oneIf (ltb (8 * j + 7) states && set (8 * j + 7))
+      → b0 + 2 * (b1 + 2 * (b2 + 2 * (b3 + 2 * (b4 + 2 * (b5 + 2 * (b6 + 2 * b7)))))) ≡ bitByte set states j
   unfolding bitByte sum table
   byte-of b0 b1 b2 b3 b4 b5 b6 b7 e0 e1 e2 e3 e4 e5 e6 e7 = omega (arith, ap (λ (s : ℕ). oneIf (ltb s states && set s)) (add-zero (8 * j)))
 

@@ -25,7 +25,11 @@ unfolding circuitGame
 some-state c = pow-pos (latchCount c)
 
 zero-or-not : (n : ℕ) → eqb n 0 ≡ not (ltb 0 n)
-zero-or-not n = elim (decLt 0 n) [ yes h ↦ ne-eqb n 0 (λ e. omega arith) ∙ sym (ap not (lt-ltb 0 n h)) | no h ↦ eq-eqb n 0 (omega arith) ∙ sym (ap not (le-ltb 0 n (omega arith))) ]
+zero-or-not n =
+    elim (decLt 0 n) [
+      | yes h ↦ ne-eqb n 0 (λ e. omega arith) ∙ sym (ap not (lt-ltb 0 n h))
+      | no h ↦ eq-eqb n 0 (omega arith) ∙ sym (ap not (le-ltb 0 n (omega arith)))
+    ]
 
 -- each number that is 0 is in a set exactly if 0 is
 zero-alone : (set : ℕ → Bool) (n : ℕ) → 0 < n → every (λ s. not (eqb s 0) || set s) n ≡ set 0
@@ -43,4 +47,7 @@ zero-alone set n h = by (set 0) (every (λ s. not (eqb s 0) || set s) n) refl re
 -- the only reset state is 0
 pub realizable-at-zero : (c : Circuit) → (circuitGame c) .states ≤ 2 ^ base .latches → eqb (getD (rankTable (circuitGame c)) 0 0) 0 ≡ isRealizable c
 unfolding isRealizable realizable isReset ranksIn inRegion
-realizable-at-zero c few = ap (λ (n : ℕ). eqb n 0) (rank-in-table (circuitGame c) few 0 (some-state c)) ∙ zero-or-not (rank (circuitGame c) 0) ∙ sym (zero-alone (inRegion (circuitGame c)) ((circuitGame c) .states) (some-state c))
+realizable-at-zero c few =
+    ap (λ (n : ℕ). eqb n 0) (rank-in-table (circuitGame c) few 0 (some-state c))
+    ∙ zero-or-not (rank (circuitGame c) 0)
+    ∙ sym (zero-alone (inRegion (circuitGame c)) ((circuitGame c) .states) (some-state c))

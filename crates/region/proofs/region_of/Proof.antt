@@ -14,7 +14,8 @@ use Rattle.region.proofs.region_of.Statement.{statement}
 use Rattle.region.proofs.region_of.Tie as tie
 
 abbrev Inv-loop : tie.InvT-loop
-Inv-loop ranks states bytes₀ j₀ bytes j = Filled (bitByte (rankZero ranks) states) bytes₀ j bytes × (length bytes₀ ≡ 2 ^ base .latches / 8) × (j ≤ 2 ^ base .latches / 8)
+Inv-loop ranks states bytes₀ j₀ bytes j =
+    Filled (bitByte (rankZero ranks) states) bytes₀ j bytes × (length bytes₀ ≡ 2 ^ base .latches / 8) × (j ≤ 2 ^ base .latches / 8)
 
 abbrev μ-loop : tie.MeasureT-loop
 μ-loop ranks states bytes₀ j₀ bytes j = 2 ^ base .latches / 8 - j
@@ -38,7 +39,9 @@ loop-less : tie.Need-loop-less Inv-loop μ-loop
 loop-less c = search needs
 
 loop-again : tie.Need-loop-again Inv-loop μ-loop
-loop-again c = let l = c .before .before .loop in (filled-next _ _ (l .j) (c .region-byte .result) (l .bytes) (l .inv .0) (omega arith) (c .region-byte .ensures), l .inv .1, omega arith)
+loop-again c =
+    let l = c .before .before .loop in
+    (filled-next _ _ (l .j) (c .region-byte .result) (l .bytes) (l .inv .0) (omega arith) (c .region-byte .ensures), l .inv .1, omega arith)
 
 returns : tie.Need-returns Inv-loop μ-loop
 unfolding regionTable

@@ -1,14 +1,14 @@
 -- `blocks::gates::put_gates` meets its contract: in each lane, what is left to put over what the words hold gives the whole; each turn puts one gate.
 use borrow.Author.Needs.{needs}
 use native.Mathlib.Omega.{arith}
-use mathlib.Core.Path.{_≡_, refl, sym, ap, _∙_, subst}
-use Prim.Native.Nat.{ℕ, _+_, _-_, _%_, _/_, _<_, _≤_, min}
+use mathlib.Core.Path.{sym, ap, _∙_, subst}
+use Prim.Native.Nat.{ℕ, _+_, _-_, _/_, _<_, _≤_, min}
 use lib.Bits.{bitAnd}
 use lib.ListN.{length, getD}
-use mathlib.Core.Bool.{Bool, _&&_}
+use mathlib.Core.Bool.{_&&_}
 use Rattle.net.specs.InOrder.{variables}
 use Rattle.blocks.specs.Evaluated.{literals}
-use Rattle.blocks.specs.Lane.{width, lane, litsIn}
+use Rattle.blocks.specs.Lane.{lane, litsIn}
 use Rattle.blocks.proofs.laws.Lane.{lane-and}
 use Rattle.blocks.proofs.laws.Putting.{Run, run-start, run-next, run-end, run-room}
 use Rattle.blocks.proofs.gates.put_gates.Statement.{statement}

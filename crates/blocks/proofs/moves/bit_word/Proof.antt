@@ -1,7 +1,7 @@
 -- `blocks::moves::bit_word` meets its contract: the lowest six bits are the lane's own, the others the block's.
 use borrow.Author.Needs.{needs}
 use native.Mathlib.Omega.{arith}
-use mathlib.Core.Path.{_≡_, refl, sym, ap, _∙_, subst}
+use mathlib.Core.Path.{_∙_}
 use Rattle.blocks.proofs.laws.Move.{move-low, move-high}
 use Rattle.blocks.proofs.moves.bit_word.Statement.{statement}
 use Rattle.blocks.proofs.moves.bit_word.Tie as tie

@@ -1,7 +1,7 @@
 -- `blocks::moves::has_bit` meets its contract: a bit by a shift, and none behind the last.
 use borrow.Author.Needs.{needs}
 use native.Mathlib.Omega.{arith}
-use mathlib.Core.Path.{_≡_, refl, sym, ap, _∙_, subst}
+use mathlib.Core.Path.{refl, sym}
 use Rattle.bits.specs.Bit.{odd}
 use Rattle.blocks.specs.Lane.{lane}
 use Rattle.blocks.proofs.laws.Lane.{lane-past}

@@ -1,7 +1,6 @@
 -- `blocks::moves::lane_bit` meets its contract: each of the six words is tried in every lane.
-use borrow.Author.Needs.{needs}
 use native.Mathlib.Omega.{arith}
-use mathlib.Core.Path.{_≡_, refl, sym, ap, _∙_, subst}
+use mathlib.Core.Path.{refl}
 use Rattle.below.specs.Least.{every, any, least}
 use Rattle.blocks.proofs.laws.Move.{ownBits, own-bits}
 use Rattle.blocks.proofs.moves.lane_bit.Statement.{statement}

@@ -1,7 +1,6 @@
 -- `blocks::moves::put_move` meets its contract: each turn puts one variable.
 use borrow.Author.Needs.{needs}
 use native.Mathlib.Omega.{arith}
-use mathlib.Core.Path.{_≡_, refl, sym, ap, _∙_, subst}
 use Prim.Native.Nat.{_-_}
 use Rattle.blocks.proofs.laws.Putting.{Moved, moved-start, moved-next, moved-end}
 use Rattle.blocks.proofs.moves.put_move.Statement.{statement}

@@ -1,8 +1,8 @@
 -- `blocks::moves::variable_word` meets its contract: variable 0 is false, another the bit before it.
 use borrow.Author.Needs.{needs}
 use native.Mathlib.Omega.{arith}
-use mathlib.Core.Path.{_≡_, refl, sym, ap, _∙_, subst}
-use Prim.Native.Nat.{ℕ, _-_}
+use mathlib.Core.Path.{sym, ap, _∙_}
+use Prim.Native.Nat.{_-_}
 use Rattle.net.specs.Net.{withMove}
 use Rattle.net.proofs.laws.Move.{with-move-at, with-move-none}
 use Rattle.blocks.specs.Lane.{moveIn}

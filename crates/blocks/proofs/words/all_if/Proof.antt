@@ -1,6 +1,5 @@
 -- `blocks::words::all_if` meets its contract: each lane of the one word is true, and none of the other.
-use borrow.Author.Needs.{needs}
-use mathlib.Core.Path.{_≡_, refl, sym, ap, _∙_, subst}
+use mathlib.Core.Path.{sym, _∙_}
 use Rattle.blocks.proofs.laws.Lane.{lane-all, lane-none}
 use Rattle.blocks.proofs.words.all_if.Statement.{statement}
 use Rattle.blocks.proofs.words.all_if.Tie as tie

@@ -1,7 +1,5 @@
 -- `blocks::words::put_both` meets its contract: a word and its inverse, side by side.
 use borrow.Author.Needs.{needs}
-use native.Mathlib.Omega.{arith}
-use mathlib.Core.Path.{_≡_, refl, sym, ap, _∙_, subst}
 use Rattle.blocks.proofs.laws.Putting.{both-set}
 use Rattle.blocks.proofs.words.put_both.Statement.{statement}
 use Rattle.blocks.proofs.words.put_both.Tie as tie

@@ -1,8 +1,6 @@
 -- `net::moves::lowest` meets its contract: a shift of 1 is a power of two, and a remainder by it leaves the lowest bits.
 use borrow.Author.Needs.{needs}
-use Prim.Native.Nat.{ℕ, _%_, _<_, _^_}
 use native.Mathlib.Omega.{arith}
-use mathlib.Core.Path.{_≡_, ap}
 use lib.Pow.{pow-pos}
 use Rattle.bits.proofs.laws.Shift.{power-by-shift}
 use Rattle.net.proofs.moves.lowest.Statement.{statement}

@@ -1,8 +1,8 @@
 -- `net::moves::move_of` meets its contract: each part has so few bits that nothing is lost.
 use borrow.Author.Needs.{needs}
-use Prim.Native.Nat.{ℕ, _+_, _*_, _%_, _^_, _<_, min}
+use Prim.Native.Nat.{ℕ, _+_, _*_, _%_, _^_, _<_}
 use native.Mathlib.Omega.{arith}
-use mathlib.Core.Path.{_≡_, sym, ap, _∙_, subst}
+use mathlib.Core.Path.{ap, _∙_}
 use Rattle.net.specs.Move.{moveOf}
 use Rattle.net.proofs.laws.Move.{shift-joins, join-below, power-fits, lowest-below}
 use Rattle.net.proofs.moves.move_of.Statement.{statement}

@@ -1,9 +1,9 @@
 -- `net::names::name_inputs` meets its contract: what is left to name over the names so far gives the whole; each turn names one input.
 use borrow.Author.Needs.{needs}
-use Prim.Native.Nat.{_+_, _-_, _<_}
+use Prim.Native.Nat.{_+_, _-_}
 use native.Mathlib.Omega.{arith}
-use mathlib.Core.Path.{refl, sym, ap, _∙_}
-use lib.ListN.{length, getD, take, drop}
+use mathlib.Core.Path.{refl, sym, _∙_}
+use lib.ListN.{take, drop}
 use Rattle.circuit.specs.Stored.{inputsOf}
 use Rattle.net.specs.InOrder.{variables}
 use Rattle.net.specs.contracts.NamesIn.{namesIn}

@@ -3,7 +3,7 @@ use borrow.Author.Needs.{needs}
 use Prim.Native.Nat.{ℕ, suc, _+_, _-_}
 use native.Mathlib.Omega.{arith}
 use mathlib.Core.Path.{_≡_, refl, sym, ap, _∙_}
-use lib.ListN.{length, take, drop}
+use lib.ListN.{take, drop}
 use Rattle.circuit.specs.Stored.{latchesOf}
 use Rattle.net.specs.contracts.NamesIn.{namesIn}
 use Rattle.net.specs.NetOf.{nameLatches}

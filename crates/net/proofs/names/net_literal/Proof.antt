@@ -2,7 +2,7 @@
 use borrow.Author.Needs.{needs}
 use Prim.Native.Nat.{ℕ, _+_, _*_, _/_, _%_}
 use native.Mathlib.Omega.{arith}
-use mathlib.Core.Path.{_≡_, sym, ap, _∙_}
+use mathlib.Core.Path.{sym, ap, _∙_}
 use Rattle.net.specs.contracts.NamesIn.{namesIn}
 use Rattle.net.proofs.laws.Names.{literal-constant, literal-made}
 use Rattle.net.proofs.names.net_literal.Statement.{statement}

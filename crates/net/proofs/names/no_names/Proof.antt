@@ -1,5 +1,4 @@
 -- `net::names::no_names` meets its contract: the same number everywhere.
-use borrow.Author.Needs.{needs}
 use Prim.Native.Nat.{_+_}
 use Rattle.below.proofs.laws.Filled.{replicate-table}
 use Rattle.circuit.specs.Limits.{base}

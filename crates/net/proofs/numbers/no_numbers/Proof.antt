@@ -1,5 +1,4 @@
 -- `net::numbers::no_numbers` meets its contract: the same number everywhere.
-use borrow.Author.Needs.{needs}
 use Rattle.below.proofs.laws.Filled.{replicate-table}
 use Rattle.net.specs.Made.{most}
 use Rattle.net.proofs.numbers.no_numbers.Statement.{statement}

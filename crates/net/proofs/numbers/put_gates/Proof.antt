@@ -1,9 +1,9 @@
 -- `net::numbers::put_gates` meets its contract: what is left to put and to name gives the whole; each turn does so with one gate.
 use borrow.Author.Needs.{needs}
-use Prim.Native.Nat.{ℕ, _+_, _-_}
+use Prim.Native.Nat.{_+_, _-_}
 use native.Mathlib.Omega.{arith}
-use mathlib.Core.Path.{refl, sym, ap, _∙_}
-use lib.ListN.{length, length-set}
+use mathlib.Core.Path.{ap, _∙_}
+use lib.ListN.{length-set}
 use Rattle.net.specs.InOrder.{variables}
 use Rattle.net.specs.contracts.NamesIn.{namesIn}
 use Rattle.net.specs.NetOf.{netLiteral}

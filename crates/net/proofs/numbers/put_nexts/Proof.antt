@@ -1,9 +1,8 @@
 -- `net::numbers::put_nexts` meets its contract: what is left to put gives the whole; each turn puts one literal.
 use borrow.Author.Needs.{needs}
-use Prim.Native.Nat.{ℕ, _+_, _-_}
+use Prim.Native.Nat.{_-_}
 use native.Mathlib.Omega.{arith}
-use mathlib.Core.Path.{refl, sym, ap, _∙_}
-use lib.ListN.{length, length-set}
+use mathlib.Core.Path.{ap, _∙_}
 use Rattle.net.specs.contracts.NamesIn.{namesIn}
 use Rattle.net.specs.NetOf.{netLiteral}
 use Rattle.net.proofs.laws.Putting.{Nexts, nexts-start, nexts-next, nexts-end}

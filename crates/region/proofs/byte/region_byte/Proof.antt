@@ -96,7 +96,16 @@ add-result : tie.Need-add-result
 add-result c = search needs
 
 returns : tie.Need-returns
-returns c = let a = c .before .before .before .before .before .before .before .before .before .args in byte-of (rankZero (a .ranks .now)) (a .states) (a .j) (c .region-bit8 .result) (c .before .region-bit7 .result) (c .before .before .region-bit6 .result) (c .before .before .before .region-bit5 .result) (c .before .before .before .before .region-bit4 .result) (c .before .before .before .before .before .region-bit3 .result) (c .before .before .before .before .before .before .region-bit2 .result) (c .before .before .before .before .before .before .before .region-bit .result) (c .region-bit8 .ensures .0) (c .before .region-bit7 .ensures .0) (c .before .before .region-bit6 .ensures .0) (c .before .before .before .region-bit5 .ensures .0) (c .before .before .before .before .region-bit4 .ensures .0) (c .before .before .before .before .before .region-bit3 .ensures .0) (c .before .before .before .before .before .before .region-bit2 .ensures .0) (c .before .before .before .before .before .before .before .region-bit .ensures .0)
+returns c =
+    let a = c .before .before .before .before .before .before .before .before .before .args in
+    byte-of (rankZero (a .ranks .now)) (a .states) (a .j) (c .region-bit8 .result) (c .before .region-bit7 .result)
+    (c .before .before .region-bit6 .result) (c .before .before .before .region-bit5 .result) (c .before .before .before .before .region-bit4 .result)
+    (c .before .before .before .before .before .region-bit3 .result) (c .before .before .before .before .before .before .region-bit2 .result)
+    (c .before .before .before .before .before .before .before .region-bit .result) (c .region-bit8 .ensures .0) (c .before .region-bit7 .ensures .0)
+    (c .before .before .region-bit6 .ensures .0) (c .before .before .before .region-bit5 .ensures .0)
+    (c .before .before .before .before .region-bit4 .ensures .0) (c .before .before .before .before .before .region-bit3 .ensures .0)
+    (c .before .before .before .before .before .before .region-bit2 .ensures .0)
+    (c .before .before .before .before .before .before .before .region-bit .ensures .0)
 
 pub region-byte-spec : {M : Type 1} → statement M
 region-byte-spec =
