@@ -21,7 +21,6 @@ use Rattle.records.specs.AttackTable.{attackBytes}
 use Rattle.records.specs.Record.{recordOf, circuitKind, regionKind, replyKind, attackKind}
 use Rattle.records.specs.RegionBits.{regionBytes}
 use Rattle.records.specs.ReplyBytes.{replyBytes}
-use Rattle.writer.specs.declared.Certified.{Certified}
 use Rattle.writer.specs.declared.Certified.the-variants.{Realizable, Unrealizable, Refused}
 use Rattle.writer.specs.Answer.{Verdict, certifiedOutcome, certificateFor, verdictFor, CertifiedAs}
 use Rattle.writer.specs.Certificate.{replyCertificate, attackCertificate, certificateOf}

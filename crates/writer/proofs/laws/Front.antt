@@ -7,7 +7,7 @@ use Rattle.circuit.specs.Circuit.{Circuit}
 use Rattle.circuit.specs.declared.FileRead.{FileRead}
 use Rattle.circuit.specs.declared.Read.the-variants.{Taken, Refused as ReadRefused}
 use Rattle.circuit.specs.declared.Refusal.{Refusal}
-use Rattle.circuit.specs.Outcome.{Outcome, taken, refused, _>>=_}
+use Rattle.circuit.specs.Outcome.{Outcome, taken}
 use Rattle.circuit.specs.Stored.{meant, solvable}
 use Rattle.file.specs.CircuitIn.{circuitIn}
 use Rattle.file.proofs.laws.Read.{Means, taken-means, refused-means}

@@ -93,9 +93,7 @@ pub told-passes :
     → Passing file c after v
 told-passes file c before after v reads told written =
     let says : verdictFor file (taken c) (length before) ≡ taken v = subst (λ (o : Outcome Circuit). verdictFor file o (length before) ≡ taken v) reads told in
-    let leaves : after
-    ≡ bufferAfter (certificateFor file (taken c) (length before)) before = subst
-    (λ (o : Outcome Circuit). after ≡ bufferAfter (certificateFor file o (length before)) before) reads written in
+    let leaves = subst (λ (o : Outcome Circuit). after ≡ bufferAfter (certificateFor file o (length before)) before) reads written in
     let (verdict, counted, stands) = buffer-holds file c before after v says leaves in
     record {
       starts = startsOf c (ownTables file c);

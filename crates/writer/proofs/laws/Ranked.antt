@@ -1,14 +1,13 @@
 -- A circuit's counts and its solution are what the writers of tables go by; and the rank of state 0 is the verdict. Assumes nothing.
 use Prim.Native.Nat.{ℕ, _*_, _^_, _≤_, min}
 use native.Mathlib.Omega.{arith}
-use mathlib.Core.Bool.{true, false}
 use mathlib.Core.List.{List}
 use mathlib.Core.Path.{_≡_, sym, ap, _∙_}
 use lib.Dec.{eqb}
 use lib.ListN.{length, getD}
 use lib.Pow.{pow-mono}
 use borrow.Author.Tests.{eq-eqb, ne-eqb}
-use Rattle.circuit.specs.Circuit.{Circuit, latchCount, uncontrollableCount}
+use Rattle.circuit.specs.Circuit.{Circuit, latchCount}
 use Rattle.circuit.specs.Limits.{base}
 use Rattle.circuit.proofs.laws.Numbers.{numbers-whole}
 use Rattle.game.specs.CircuitGame.{circuitGame, isRealizable}

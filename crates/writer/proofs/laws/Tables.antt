@@ -2,19 +2,15 @@
 -- ranks with the attacks. Assumes nothing.
 use Prim.Native.Nat.{ℕ, _+_, _*_, _/_, _%_, _^_, _<_, _≤_}
 use native.Mathlib.Nat.{mul-le-mul}
-use native.Mathlib.Decide.{decLt}
 use native.Mathlib.Omega.{arith}
-use mathlib.Core.Bool.{Bool, not, _&&_}
+use mathlib.Core.Bool.{not}
 use mathlib.Core.List.{List, [], _∷_, _++_, flatMap}
 use mathlib.Core.Path.{_≡_, sym, ap, ap₂, _∙_}
 use lib.Dec.{ltb}
 use lib.ListN.{getD, take}
 use lib.Pow.{pow-add}
-use borrow.Author.Tests.{le-ltb}
 use Rattle.below.specs.Table.{table}
-use Rattle.below.proofs.laws.Table.{table-same}
-use Rattle.bits.specs.Bit.{oneIf}
-use Rattle.bits.specs.Digits.{digits, sum}
+use Rattle.bits.specs.Digits.{digits}
 use Rattle.bits.specs.InTurn.{inTurn}
 use Rattle.bits.proofs.laws.InTurn.{in-turn-same}
 use Rattle.circuit.specs.Circuit.{Circuit, latchCount, uncontrollableCount}
