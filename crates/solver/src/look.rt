@@ -6,7 +6,7 @@ use crate::planes::number_at;
 use blocks::LITERALS;
 use circuit::counts::numbers;
 use keeping::lane::keeping_lane;
-use keeping::lane::lane_number;
+use keeping::rank_list::first_failed;
 use keeping::rank_list::still_keeps;
 ghost use Prim.Native.Nat.{ℕ, _+_, _*_, _^_, _<_, _≤_};
 ghost use mathlib.Core.Bool.{Bool};
@@ -45,13 +45,14 @@ pub(crate) fn least_defeat<'a>(
     let n = readings(net);
     let controls = controls(net);
     let first = state as usize * n;
-    let mut r = 0;
-    while r < n {
-        let control = least_kept(net, words, kept, planes, ranks, bound, first + r);
+    let end = first + n;
+    let mut place = first_failed(kept, ranks, bound, first, end);
+    while place < end {
+        let control = look_on(net, words, kept, planes, ranks, bound, place);
         if controls <= control {
-            return r;
+            return place - first;
         }
-        r += 1;
+        place = first_failed(kept, ranks, bound, place + 1, end);
     }
     n
 }
@@ -128,7 +129,7 @@ fn keeping_from<'a>(
         let block = m / 64;
         let at = hold(net, words, planes, block);
         let last = below::fewer(64, end - block * 64);
-        let j = keeping_lane(
+        let found = keeping_lane(
             planes[at + ERROR],
             &planes[at..at + latches],
             ranks,
@@ -136,10 +137,12 @@ fn keeping_from<'a>(
             m % 64,
             last,
         );
-        m = block * 64 + j;
-        if j < last {
-            let lead = lane_number(&planes[at..at + latches], j);
-            return Found { number: m, lead };
+        m = block * 64 + found.lane;
+        if found.lane < last {
+            return Found {
+                number: m,
+                lead: found.lead,
+            };
         }
     }
     Found {

@@ -50,7 +50,7 @@ replies-end net ranks small e = table-same _ _ (2 ^ base .latches * 2 ^ base .un
     within : (i : ℕ) → i < n → replyOver (netGame net) ranks (i / 2 ^ netReadings net) (i % 2 ^ netReadings net) ≡ reply (netGame net) (i / 2 ^ netReadings net) (i % 2 ^ netReadings net)
     within i h = ap (λ (l : List ℕ). replyOver (netGame net) l (i / 2 ^ netReadings net) (i % 2 ^ netReadings net)) e ∙ reply-over-is-reply (netGame net) (net-proper net) (few-states net small) (i / 2 ^ netReadings net) (state-of net i h) (i % 2 ^ netReadings net) (reading-of net i h)
 
-abbrev empty : List ℕ
+abbrev pub empty : List ℕ
 empty = 0 ∷ 0 ∷ 0 ∷ 0 ∷ []
 
 empty-is : empty ≡ netOf emptyCircuit
@@ -65,6 +65,14 @@ pub empty-small : Small empty
 unfolding netReadings netControls
 empty-small = record { order = subst InOrder (sym empty-is) (net-in-order emptyCircuit empty-room); readings = omega arith; controls = omega arith }
 
+-- 1 of a net with too many inputs of a sort, 0 of another: the empty one takes its place
+unfoldable pub excess : List ℕ → ℕ
+excess net = cond (ltb (base .uncontrollable) (netReadings net) || ltb (base .controllable) (netControls net)) 1 0
+
+pub empty-itself : solvableNet empty ≡ empty
+unfolding solvableNet netReadings netControls
+empty-itself = refl
+
 -- by the counts of a net
 module _ (net : List ℕ) (order : InOrder net) (u k : ℕ) (others : u ≡ getD net 1 0) (chosen : k ≡ getD net 0 0) where
   counted : (ltb (base .uncontrollable) u || ltb (base .controllable) k) ≡ (ltb (base .uncontrollable) (netReadings net) || ltb (base .controllable) (netControls net))
@@ -74,6 +82,10 @@ module _ (net : List ℕ) (order : InOrder net) (u k : ℕ) (others : u ≡ getD
   pub many-empty : (ltb (base .uncontrollable) u || ltb (base .controllable) k) ≡ true → empty ≡ solvableNet net
   unfolding solvableNet
   many-empty e = sym (ap (λ (b : Bool). cond b empty net) (sym counted ∙ e))
+
+  pub many-falls : (ltb (base .uncontrollable) u || ltb (base .controllable) k) ≡ true → excess empty < excess net
+  unfolding excess netReadings netControls
+  many-falls e = omega (arith, ap {B = ℕ} (λ (b : Bool). cond b 1 0) (sym counted ∙ e))
 
   module _ (e : (ltb (base .uncontrollable) u || ltb (base .controllable) k) ≡ false) where
     pub few-itself : net ≡ solvableNet net
