@@ -23,17 +23,11 @@ pub fn is_unranked(ranks: &[u16], bound: u16, state: usize) -> bool
     bound < x
 }
 
-// The first place from one on, below an end, whose kept control doesn't keep any more; or the end, of no more places than are kept.
-pub fn first_failed<'a>(
-    kept: &'a [u16],
-    ranks: &'a [u16],
-    bound: u16,
-    from: usize,
-    end: usize,
-) -> usize
-    ensures { λ r. ⌜ r ≡ firstFailed (now (kept .entry)) (notRanked (ranksIn (now (ranks .entry))) bound) from end ⌝ }
+// The first place from one on whose kept control doesn't keep any more; or as many as are kept.
+pub fn first_failed<'a>(kept: &'a [u16], ranks: &'a [u16], bound: u16, from: usize) -> usize
+    ensures { λ r. ⌜ r ≡ firstFailed (now (kept .entry)) (notRanked (ranksIn (now (ranks .entry))) bound) from ⌝ }
 {
-    let n = below::fewer(end, kept.len() / 2);
+    let n = kept.len() / 2;
     let mut p = from;
     while p < n {
         if !still_keeps(kept[2 * p], kept[2 * p + 1], ranks, bound) {

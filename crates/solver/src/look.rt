@@ -46,13 +46,13 @@ pub(crate) fn least_defeat<'a>(
     let controls = controls(net);
     let first = state as usize * n;
     let end = first + n;
-    let mut place = first_failed(kept, ranks, bound, first, end);
+    let mut place = first_failed(&kept[..2 * end], ranks, bound, first);
     while place < end {
         let control = look_on(net, words, kept, planes, ranks, bound, place);
         if controls <= control {
             return place - first;
         }
-        place = first_failed(kept, ranks, bound, place + 1, end);
+        place = first_failed(&kept[..2 * end], ranks, bound, place + 1);
     }
     n
 }

@@ -1,13 +1,13 @@
 -- The search for a reading that defeats (01, "The game"), over the places of a state: a place whose kept control still keeps is passed at once.
 -- Assumes nothing.
-use Prim.Native.Nat.{ℕ, _+_, _*_, _-_, _/_, _^_, min, _<_, _≤_}
+use Prim.Native.Nat.{ℕ, _+_, _*_, _-_, _^_, _<_, _≤_}
 use native.Mathlib.Omega.{arith}
 use native.Mathlib.Decide.{decLt}
 use mathlib.Core.Bool.{Bool, true, false, not}
 use mathlib.Core.List.{List}
 use mathlib.Core.Path.{_≡_, refl, sym, ap, _∙_}
 use lib.Dec.{leb}
-use lib.ListN.{length, getD}
+use lib.ListN.{getD, take}
 use lib.Pow.{pow-pos}
 use borrow.Author.Tests.{le-leb, lt-leb, not-true, not-false}
 use Rattle.below.specs.Least.{least}
@@ -17,6 +17,7 @@ use Rattle.below.proofs.laws.LeastFrom.{from-le, from-holds, from-start, from-b
 use Rattle.game.specs.NetGame.{netGame}
 use Rattle.game.specs.Rank.{notRanked, defeats}
 use Rattle.keeping.specs.contracts.KeptControls.{stillKeeps, firstFailed}
+use Rattle.keeping.proofs.laws.KeptControls.{first-front}
 use Rattle.net.specs.Net.{netControls, netReadings, netLatches}
 use Rattle.solver.specs.contracts.Kept.{KeptAt, Kept, Behind}
 use Rattle.solver.specs.contracts.Moves.{placeKeeps, places}
@@ -66,13 +67,12 @@ module _ (net : List ℕ) (ranks : ℕ → ℕ) (k s u : ℕ) (state : s < 2 ^ n
   -- from a place on, to the first whose control fails
   module _ (kept planes : List ℕ) (all : Kept net ranks k kept planes) (q p : ℕ) (from : s * u ≤ q) (to : q ≤ s * u + u) where
     module _ (passed : (r : ℕ) → s * u + r < q → defeats (netGame net) ranks k s r ≡ false) where
-      module _ (found : p ≡ firstFailed kept (notRanked ranks k) q (s * u + u)) where
+      module _ (found : p ≡ firstFailed (take (2 * (s * u + u)) kept) (notRanked ranks k) q) where
         abbrev test : ℕ → Bool
         test i = not (stillKeeps kept (notRanked ranks k) i)
 
         here : p ≡ leastFrom test q (s * u + u)
-        unfolding firstFailed
-        here = found ∙ ap (leastFrom test q) {x = min (s * u + u) (length kept / 2)} {y = s * u + u} (omega (arith, all .long, state-places))
+        here = found ∙ first-front kept (notRanked ranks k) (s * u + u) q (omega (arith, all .long, state-places))
 
         pub looked-later : q ≤ p
         looked-later = elim (decLt p (s * u + u)) [ yes h ↦ omega (arith, here, from-start test q (s * u + u) (omega (arith, here))) | no h ↦ omega arith ]

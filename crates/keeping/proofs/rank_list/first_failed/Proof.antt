@@ -11,16 +11,13 @@ use Rattle.keeping.proofs.rank_list.first_failed.Statement.{statement}
 use Rattle.keeping.proofs.rank_list.first_failed.Tie as tie
 
 abbrev Inv-loop : tie.InvT-loop
-Inv-loop kept ranks bound from end n p₀ p = NoneFailed kept (notRanked (ranksIn ranks) bound) from n p
+Inv-loop kept ranks bound from n p₀ p = NoneFailed kept (notRanked (ranksIn ranks) bound) from p
 
 abbrev μ-loop : tie.MeasureT-loop
-μ-loop kept ranks bound from end n p₀ p = n - p
-
-fewer-requires : tie.Need-fewer-requires Inv-loop μ-loop
-fewer-requires c κs = search needs
+μ-loop kept ranks bound from n p₀ p = n - p
 
 loop-holds : tie.Need-loop-holds Inv-loop μ-loop
-loop-holds c = none-yet _ _ _ _
+loop-holds c = none-yet _ _ _
 
 mul-still-keeps : tie.Need-mul-still-keeps Inv-loop μ-loop
 mul-still-keeps c = search needs
@@ -48,8 +45,7 @@ still-keeps-requires c κs = search needs
 
 returns : tie.Need-returns Inv-loop μ-loop
 returns c = let l = c .before .before .before .before .before .loop in
-    let n = c .before .before .before .before .before .before .fewer in
-    fails-here _ _ _ _ _ (l .p) (n .ensures) (l .inv) (c .before .before .before .before .loop-test .taken) (sym (c .before .still-keeps .ensures) ∙ not-true _ (c .if1 .taken))
+    fails-here _ _ _ (l .p) (l .inv) (c .before .before .before .before .loop-test .taken) (sym (c .before .still-keeps .ensures) ∙ not-true _ (c .if1 .taken))
 
 add-p : tie.Need-add-p Inv-loop μ-loop
 add-p c = search needs
@@ -59,11 +55,10 @@ loop-less c = search needs
 
 loop-again : tie.Need-loop-again Inv-loop μ-loop
 loop-again c = let l = c .before .before .before .before .before .loop in
-    let n = c .before .before .before .before .before .before .fewer in
-    none-here _ _ _ _ _ (l .p) (n .ensures) (l .inv) (c .before .before .before .before .loop-test .taken) (sym (c .before .still-keeps .ensures) ∙ not-false _ (c .if1 .left))
+    none-here _ _ _ (l .p) (l .inv) (c .before .before .before .before .loop-test .taken) (sym (c .before .still-keeps .ensures) ∙ not-false _ (c .if1 .left))
 
 returns-2 : tie.Need-returns-2 Inv-loop μ-loop
-returns-2 c = let l = c .before .loop in none-fails _ _ _ _ _ (l .p) (c .before .before .fewer .ensures) (l .inv) (omega arith)
+returns-2 c = let l = c .before .loop in none-fails _ _ _ (l .p) (l .inv) (omega arith)
 
 pub first-failed-spec : {M : Type 1} → statement M
 first-failed-spec =
@@ -71,7 +66,6 @@ first-failed-spec =
     (tie.spec
     Inv-loop
     μ-loop
-    fewer-requires
     loop-holds
     mul-still-keeps
     mul-still-keeps-2

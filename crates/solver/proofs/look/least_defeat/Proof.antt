@@ -1,8 +1,9 @@
 -- `solver::look::least_defeat` meets its contract: no reading passed defeats, and what was found at each place is kept.
 use Prim.Native.Nat.{_+_, _-_, _<_}
 use native.Mathlib.Omega.{arith}
-use mathlib.Core.Path.{_≡_}
+use mathlib.Core.Path.{_≡_, sym}
 use lib.ListN.{length}
+use lib.Seq.{length-take-le}
 use Rattle.keeping.specs.RankList.{ranksIn}
 use Rattle.solver.specs.contracts.Kept.{Kept}
 use Rattle.solver.specs.contracts.Moves.{places}
@@ -40,6 +41,30 @@ add-end c = let s = c .before .before .before .before .before .before in
     let ranks = ranksIn (a .ranks .now) in
     let u = c .before .readings in
     omega (arith, state-places net ranks (a .bound) (a .state) (u .result) (s .pre .0) (u .ensures), few-places net (s .pre .1 .small))
+
+mul-first-failed : tie.Need-mul-first-failed Inv-loop μ-loop
+mul-first-failed c = let s = c .before .before .before .before .before .before in
+    let a = s .args in
+    let net = a .net .now in
+    let ranks = ranksIn (a .ranks .now) in
+    let u = c .before .readings in
+    omega (arith, state-places net ranks (a .bound) (a .state) (u .result) (s .pre .0) (u .ensures), few-places net (s .pre .1 .small))
+
+slice-reshare-prefix-first-failed : tie.Need-slice-reshare-prefix-first-failed Inv-loop μ-loop
+slice-reshare-prefix-first-failed c = let s = c .before .before .before .before .before .before in
+    let a = s .args in
+    let net = a .net .now in
+    let ranks = ranksIn (a .ranks .now) in
+    let u = c .before .readings in
+    omega (arith, state-places net ranks (a .bound) (a .state) (u .result) (s .pre .0) (u .ensures), s .pre .1 .long)
+
+slice-aggregate-first-failed : tie.Need-slice-aggregate-first-failed Inv-loop μ-loop
+slice-aggregate-first-failed c = let s = c .before .before .before .before .before .before .before in
+    let a = s .args in
+    let net = a .net .now in
+    let ranks = ranksIn (a .ranks .now) in
+    let u = c .before .before .readings in
+    sym (length-take-le _ _ (omega (arith, state-places net ranks (a .bound) (a .state) (u .result) (s .pre .0) (u .ensures), s .pre .1 .long)))
 
 first-failed-requires : tie.Need-first-failed-requires Inv-loop μ-loop
 first-failed-requires c κs = search needs
@@ -85,6 +110,30 @@ returns c = let s = c .before .before .before .before .before .before .before .b
     let f = c .before .before .before .before .before .look-on in
     let at = looked-defeat net ranks (a .bound) (a .state) (u .result) (s .pre .0) (u .ensures) _ (l .place) (f .result) (n .result) in
     (at (l .inv .0) (c .before .before .before .before .before .before .before .before .before .loop-test .taken) (n .ensures) (f .ensures .0) (c .if1 .taken), f .ensures .1)
+
+mul-first-failed-2 : tie.Need-mul-first-failed-2 Inv-loop μ-loop
+mul-first-failed-2 c = let s = c .before .before .before .before .before .before .before .before .before .before .before .before .before .before .before .before .before .before .before in
+    let a = s .args in
+    let net = a .net .now in
+    let ranks = ranksIn (a .ranks .now) in
+    let u = c .before .before .before .before .before .before .before .before .before .before .before .before .before .before .readings in
+    omega (arith, state-places net ranks (a .bound) (a .state) (u .result) (s .pre .0) (u .ensures), few-places net (s .pre .1 .small))
+
+slice-reshare-prefix-first-failed-2 : tie.Need-slice-reshare-prefix-first-failed-2 Inv-loop μ-loop
+slice-reshare-prefix-first-failed-2 c = let s = c .before .before .before .before .before .before .before .before .before .before .before .before .before .before .before .before .before .before .before in
+    let a = s .args in
+    let net = a .net .now in
+    let ranks = ranksIn (a .ranks .now) in
+    let u = c .before .before .before .before .before .before .before .before .before .before .before .before .before .before .readings in
+    omega (arith, state-places net ranks (a .bound) (a .state) (u .result) (s .pre .0) (u .ensures), c .before .before .before .before .before .look-on .ensures .1 .long)
+
+slice-aggregate-first-failed-2 : tie.Need-slice-aggregate-first-failed-2 Inv-loop μ-loop
+slice-aggregate-first-failed-2 c = let s = c .before .before .before .before .before .before .before .before .before .before .before .before .before .before .before .before .before .before .before .before in
+    let a = s .args in
+    let net = a .net .now in
+    let ranks = ranksIn (a .ranks .now) in
+    let u = c .before .before .before .before .before .before .before .before .before .before .before .before .before .before .before .readings in
+    sym (length-take-le _ _ (omega (arith, state-places net ranks (a .bound) (a .state) (u .result) (s .pre .0) (u .ensures), c .before .before .before .before .before .before .look-on .ensures .1 .long)))
 
 add-first-failed : tie.Need-add-first-failed Inv-loop μ-loop
 add-first-failed c = let s = c .before .before .before .before .before .before .before .before .before .before .before .before .before .before .before .before .before .before .before .before in
@@ -154,6 +203,9 @@ least-defeat-spec =
     controls-requires
     mul-first
     add-end
+    mul-first-failed
+    slice-reshare-prefix-first-failed
+    slice-aggregate-first-failed
     first-failed-requires
     loop-holds
     look-on-requires
@@ -161,6 +213,9 @@ least-defeat-spec =
     same-length
     same-length-2
     returns
+    mul-first-failed-2
+    slice-reshare-prefix-first-failed-2
+    slice-aggregate-first-failed-2
     add-first-failed
     first-failed-requires-2
     loop-less
