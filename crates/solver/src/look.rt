@@ -8,19 +8,16 @@ use circuit::counts::numbers;
 use keeping::lane::keeping_lane;
 use keeping::rank_list::first_failed;
 use keeping::rank_list::still_keeps;
-ghost use Prim.Native.Nat.{ℕ, _+_, _*_, _^_, _<_, _≤_};
-ghost use mathlib.Core.Bool.{Bool};
+ghost use Prim.Native.Nat.{_+_, _*_, _^_, _<_, _≤_};
 ghost use mathlib.Core.Path.{_≡_};
-ghost use lib.ListN.{length};
 ghost use Rattle.below.specs.Least.{least};
-ghost use Rattle.below.specs.LeastFrom.{leastFrom};
-ghost use Rattle.game.specs.Rank.{notRanked, defeats};
+ghost use Rattle.game.specs.Rank.{defeats};
 ghost use Rattle.keeping.specs.RankList.{ranksIn};
 ghost use Rattle.net.specs.Net.{netControls, netReadings, netLatches};
 ghost use Rattle.solver.specs.contracts.Kept.{Kept, Behind};
-ghost use Rattle.solver.specs.contracts.Moves.{Small, moveKeeps, placeKeeps, places};
-ghost use Rattle.game.specs.NetGame.{netGame};
+ghost use Rattle.solver.specs.contracts.Moves.{Small, places};
 ghost use Rattle.solver.specs.contracts.Planes.{AllHeld};
+ghost use Rattle.solver.specs.contracts.Answers.{MoveFrom, ControlAt, DefeatOf};
 
 // A move, and the state that it leads to.
 pub(crate) struct Found {
@@ -40,7 +37,7 @@ pub(crate) fn least_defeat<'a>(
 ) -> usize
     requires { ⌜ state < 2 ^ netLatches (now net) ⌝ }
     requires { ⌜ Kept (now net) (ranksIn (now ranks)) bound (now kept) (now planes) ⌝ }
-    ensures { λ r. ⌜ (r ≡ least (defeats (netGame (now (net .entry))) (ranksIn (now (ranks .entry))) bound state) (2 ^ netReadings (now (net .entry)))) × Kept (now (net .entry)) (ranksIn (now (ranks .entry))) bound (now (kept .exit)) (now (planes .exit)) ⌝ }
+    ensures { λ r. ⌜ DefeatOf (now (net .entry)) (now (ranks .entry)) bound state r (now (kept .exit)) (now (planes .exit)) ⌝ }
 {
     let n = readings(net);
     let controls = controls(net);
@@ -69,7 +66,7 @@ pub(crate) fn least_kept<'a>(
 ) -> usize
     requires { ⌜ place < places (now net) ⌝ }
     requires { ⌜ Kept (now net) (ranksIn (now ranks)) bound (now kept) (now planes) ⌝ }
-    ensures { λ r. ⌜ (r ≡ least (placeKeeps (now (net .entry)) (notRanked (ranksIn (now (ranks .entry))) bound) place) (2 ^ netControls (now (net .entry)))) × Kept (now (net .entry)) (ranksIn (now (ranks .entry))) bound (now (kept .exit)) (now (planes .exit)) ⌝ }
+    ensures { λ r. ⌜ ControlAt (now (net .entry)) (now (ranks .entry)) bound place r (now (kept .exit)) (now (planes .exit)) ⌝ }
 {
     let found = kept[2 * place];
     let lead = kept[2 * place + 1];
@@ -92,7 +89,7 @@ fn look_on<'a>(
     requires { ⌜ place < places (now net) ⌝ }
     requires { ⌜ Kept (now net) (ranksIn (now ranks)) bound (now kept) (now planes) ⌝ }
     requires { ⌜ Behind (now net) (ranksIn (now ranks)) bound place (now kept) ⌝ }
-    ensures { λ r. ⌜ (r ≡ least (placeKeeps (now (net .entry)) (notRanked (ranksIn (now (ranks .entry))) bound) place) (2 ^ netControls (now (net .entry)))) × Kept (now (net .entry)) (ranksIn (now (ranks .entry))) bound (now (kept .exit)) (now (planes .exit)) ⌝ }
+    ensures { λ r. ⌜ ControlAt (now (net .entry)) (now (ranks .entry)) bound place r (now (kept .exit)) (now (planes .exit)) ⌝ }
 {
     let n = controls(net);
     let first = place * n;
@@ -121,7 +118,7 @@ fn keeping_from<'a>(
     requires { ⌜ AllHeld (now net) (now planes) ⌝ }
     requires { ⌜ from ≤ end ⌝ }
     requires { ⌜ end ≤ 8388608 ⌝ }
-    ensures { λ r. ⌜ (r .number ≡ leastFrom (moveKeeps (now (net .entry)) (notRanked (ranksIn (now (ranks .entry))) bound)) from end) × (r .number < end → (set : ℕ → Bool) → moveKeeps (now (net .entry)) set (r .number) ≡ set (r .lead)) × AllHeld (now (net .entry)) (now (planes .exit)) ⌝ }
+    ensures { λ r. ⌜ MoveFrom (now (net .entry)) (now (ranks .entry)) bound from end (r .number) (r .lead) (now (planes .exit)) ⌝ }
 {
     let latches = latches(net);
     let mut m = from;

@@ -110,7 +110,10 @@ module _ (net : List ℕ) (ranks : ℕ → ℕ) (k s u : ℕ) (state : s < 2 ^ n
           (sym decides ∙ le-leb n m h) (λ r l. looked .none r (omega (arith, looked .started))))
 
       pub looked-passed : m < n → (r : ℕ) → s * u + r < p + 1 → defeats (netGame net) ranks k s r ≡ false
-      looked-passed h r l = elim (decLt (s * u + r) p) [ yes a ↦ looked .none r a | no a ↦ ap (defeats (netGame net) ranks k s) (same a) ∙ sym decides ∙ lt-leb n m h ]
+      looked-passed h r l = elim (decLt (s * u + r) p) [
+        | yes a ↦ looked .none r a
+        | no a ↦ ap (defeats (netGame net) ranks k s) (same a) ∙ sym decides ∙ lt-leb n m h
+      ]
         where
           same : (s * u + r < p → ⊥) → r ≡ p - s * u
           same a = omega arith

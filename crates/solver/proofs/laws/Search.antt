@@ -15,7 +15,8 @@ use Rattle.solver.specs.contracts.Moves.{moveKeeps}
 use Rattle.solver.specs.contracts.Planes.{Holds}
 
 -- where a lane keeps in some set, its state decides for each
-lane-leads : (some : ℕ → Bool) (error : ℕ) (next : List ℕ) (j : ℕ) → keepsIn some error next j ≡ true → (set : ℕ → Bool) → keepsIn set error next j ≡ set (laneNumber next j)
+lane-leads : (some : ℕ → Bool) (error : ℕ) (next : List ℕ) (j : ℕ) → keepsIn some error next j ≡ true → (set : ℕ → Bool)
+    → keepsIn set error next j ≡ set (laneNumber next j)
 unfolding keepsIn
 lane-leads some error next j e set = by (lane error j) e
   where
@@ -66,7 +67,8 @@ module _ {net planes next : List ℕ} {at : ℕ} {set : ℕ → Bool} {from n m 
   in-lane i h = sym (lane-says i h set)
 
   fails : (i : ℕ) → m ≤ i → i < m / width * width + j → p i ≡ false
-  fails i a b = ap p here ∙ in-lane (i - m / width * width) (omega (arith, lane-within)) ∙ from-before q (m % width) end (i - m / width * width) (omega arith) (omega (arith, turn .found))
+  fails i a b = ap p here ∙ in-lane (i - m / width * width) (omega (arith, lane-within))
+      ∙ from-before q (m % width) end (i - m / width * width) (omega arith) (omega (arith, turn .found))
     where
       here : i ≡ m / width * width + (i - m / width * width)
       here = omega arith
@@ -79,7 +81,12 @@ module _ {net planes next : List ℕ} {at : ℕ} {set : ℕ → Bool} {from n m 
     lane-keeps = ap q (turn .found) ∙ from-holds q (m % width) end below
 
     pub lane-found : m / width * width + j ≡ leastFrom p from n
-    lane-found = searched-found p from n m (m / width * width + j) (turn .searched) (omega (arith, turn .found, from-start q (m % width) end below)) (omega arith) (in-lane j (omega arith) ∙ lane-keeps) fails
+    lane-found =
+        searched-found p from n m (m / width * width + j) (turn .searched) (omega (
+          arith,
+          turn .found,
+          from-start q (m % width) end below,
+        )) (omega arith) (in-lane j (omega arith) ∙ lane-keeps) fails
 
     -- and where the move leads
     pub lane-lead : (lead : ℕ) → lead ≡ laneNumber next j → (these : ℕ → Bool) → moveKeeps net these (m / width * width + j) ≡ these lead

@@ -40,15 +40,23 @@ use Rattle.solver.proofs.laws.NetGame.{net-proper}
 use Rattle.solver.proofs.laws.Over.{reply-over-is-reply}
 
 -- the replies found at each place are the game's
-pub replies-end : (net ranks : List ℕ) → Small net → ranks ≡ rankTable (netGame net) → table (λ i. cond (ltb i (places net)) (replyOver (netGame net) ranks (i / 2 ^ netReadings net) (i % 2 ^ netReadings net)) 0) (2 ^ base .latches * 2 ^ base .uncontrollable) ≡ replyTable (netGame net)
+pub replies-end : (net ranks : List ℕ) → Small net → ranks ≡ rankTable (netGame net)
+    → table (λ i. cond (ltb i (places net)) (replyOver (netGame net) ranks (i / 2 ^ netReadings net) (i % 2 ^ netReadings net)) 0)
+    (2 ^ base .latches * 2 ^ base .uncontrollable) ≡ replyTable (netGame net)
 unfolding replyTable netGame places
-replies-end net ranks small e = table-same _ _ (2 ^ base .latches * 2 ^ base .uncontrollable) (λ i h. elim (decLt i n) [ yes l ↦ ap (λ (x : ℕ). cond (ltb i n) x 0) (within i l) | no l ↦ rw (le-ltb i n (omega arith)) ])
+replies-end net ranks small e = table-same _ _ (2 ^ base .latches * 2 ^ base .uncontrollable) (λ i h. elim (decLt i n) [
+  | yes l ↦ ap (λ (x : ℕ). cond (ltb i n) x 0) (within i l)
+  | no l ↦ rw (le-ltb i n (omega arith))
+])
   where
     n : ℕ
     n = 2 ^ netLatches net * 2 ^ netReadings net
 
-    within : (i : ℕ) → i < n → replyOver (netGame net) ranks (i / 2 ^ netReadings net) (i % 2 ^ netReadings net) ≡ reply (netGame net) (i / 2 ^ netReadings net) (i % 2 ^ netReadings net)
-    within i h = ap (λ (l : List ℕ). replyOver (netGame net) l (i / 2 ^ netReadings net) (i % 2 ^ netReadings net)) e ∙ reply-over-is-reply (netGame net) (net-proper net) (few-states net small) (i / 2 ^ netReadings net) (state-of net i h) (i % 2 ^ netReadings net) (reading-of net i h)
+    within : (i : ℕ) → i < n → replyOver (netGame net) ranks (i / 2 ^ netReadings net) (i % 2 ^ netReadings net) ≡ reply (netGame net)
+        (i / 2 ^ netReadings net) (i % 2 ^ netReadings net)
+    within i h = ap (λ (l : List ℕ). replyOver (netGame net) l (i / 2 ^ netReadings net) (i % 2 ^ netReadings net)) e
+        ∙ reply-over-is-reply (netGame net) (net-proper net) (few-states net small) (i / 2 ^ netReadings net) (state-of net i h) (i % 2 ^ netReadings net)
+        (reading-of net i h)
 
 abbrev pub empty : List ℕ
 empty = 0 ∷ 0 ∷ 0 ∷ 0 ∷ []
@@ -75,7 +83,8 @@ empty-itself = refl
 
 -- by the counts of a net
 module _ (net : List ℕ) (order : InOrder net) (u k : ℕ) (others : u ≡ getD net 1 0) (chosen : k ≡ getD net 0 0) where
-  counted : (ltb (base .uncontrollable) u || ltb (base .controllable) k) ≡ (ltb (base .uncontrollable) (netReadings net) || ltb (base .controllable) (netControls net))
+  counted : (ltb (base .uncontrollable) u || ltb (base .controllable) k) ≡
+      (ltb (base .uncontrollable) (netReadings net) || ltb (base .controllable) (netControls net))
   unfolding netReadings netControls
   counted = λ x. ltb (base .uncontrollable) (others x) || ltb (base .controllable) (chosen x)
 
@@ -106,23 +115,31 @@ module _ (c : Circuit) where
   unfolding solvableNet
   solvable-game = by (ltb (base .uncontrollable) (netReadings (netOf c)) || ltb (base .controllable) (netControls (netOf c))) refl
     where
-      by : (b : Bool) → (ltb (base .uncontrollable) (netReadings (netOf c)) || ltb (base .controllable) (netControls (netOf c))) ≡ b → netGame (cond b empty (netOf c)) ≡ circuitGame (solvable c)
-      by true e = ap netGame empty-is ∙ net-game emptyCircuit ∙ ap circuitGame (many-solved-empty c (netReadings (netOf c)) (netControls (netOf c)) (counts-are .0) (counts-are .1) e)
+      by : (b : Bool) → (ltb (base .uncontrollable) (netReadings (netOf c)) || ltb (base .controllable) (netControls (netOf c))) ≡ b
+          → netGame (cond b empty (netOf c)) ≡ circuitGame (solvable c)
+      by true e = ap netGame empty-is ∙ net-game emptyCircuit
+          ∙ ap circuitGame (many-solved-empty c (netReadings (netOf c)) (netControls (netOf c)) (counts-are .0) (counts-are .1) e)
       by false e = net-game c ∙ ap circuitGame (few-solved c (netReadings (netOf c)) (netControls (netOf c)) (counts-are .0) (counts-are .1) e)
 
 -- the front of what is made is the net
 pub made-front : (net : List ℕ) (made : Net) → MadeAs net made → length net ≤ most → take (made .length) (made .numbers) ≡ net
 unfolding padded
-made-front net made as-is few = (λ x. take (as-is .length x) (as-is .numbers x)) ∙ take-take (length net) most (net ++ replicate most 0) few ∙ take-append-seam net (replicate most 0)
+made-front net made as-is few =
+    (λ x. take (as-is .length x) (as-is .numbers x)) ∙ take-take (length net) most (net ++ replicate most 0) few ∙ take-append-seam net (replicate most 0)
 
 pub made-long : (net : List ℕ) (made : Net) → MadeAs net made → length (made .numbers) ≡ most
 unfolding padded
-made-long net made as-is = ap length (as-is .numbers) ∙ omega (arith, length-take most (net ++ replicate most 0), length-append net (replicate most 0), length-replicate {A = ℕ} most 0)
+made-long net made as-is = ap length (as-is .numbers)
+    ∙ omega (arith, length-take most (net ++ replicate most 0), length-append net (replicate most 0), length-replicate {A = ℕ} most 0)
 
 -- a value of the code stands for a circuit that fits
 pub value-room : (v : Value) → length (v .input) ≡ base .inputs → length (v .gate) ≡ base .variable → Room (meant v)
 unfolding meant lent inputsOf latchesOf gatesOf
-value-room v e f = record { inputs = omega (arith, inputs-long, length-take (v .inputs) (v .input)); latches = omega (arith, latches-long); gates = omega (arith, gates-long, length-take (v .gates) (v .gate)) }
+value-room v e f = record {
+  inputs = omega (arith, inputs-long, length-take (v .inputs) (v .input));
+  latches = omega (arith, latches-long);
+  gates = omega (arith, gates-long, length-take (v .gates) (v .gate));
+}
   where
     inputs-long : length (inputsOf (take (v .inputs) (v .input)) (v .controllable)) ≡ length (take (v .inputs) (v .input))
     inputs-long = length-table _ (length (take (v .inputs) (v .input)))
@@ -140,7 +157,15 @@ operands-long (g ∷ gs) v names = omega (arith, operands-long gs (suc v) (name 
 
 pub net-few : (c : Circuit) → Room c → length (netOf c) ≤ most
 unfolding netOf
-net-few c room = omega (arith, room .latches, room .gates, length-append nexts operands, length-map (c .latches) literal, operands-long (c .gates) (gateStart c) (firstNames c))
+net-few c room =
+    omega (
+      arith,
+      room .latches,
+      room .gates,
+      length-append nexts operands,
+      length-map (c .latches) literal,
+      operands-long (c .gates) (gateStart c) (firstNames c),
+    )
   where
     literal : Latch → ℕ
     literal l = netLiteral (allNames c) (l .next)
@@ -159,4 +184,8 @@ module _ (largest : ℕ) (input controllable latch next : List ℕ) (output : �
     where
       by : (b : Bool) → 2 ^ latchCount (cond b emptyCircuit (lent largest input controllable latch next output gate left right)) ≤ 2 ^ base .latches
       by true = omega arith
-      by false = pow-mono {i = latchCount (lent largest input controllable latch next output gate left right)} {j = base .latches} (omega (arith, lent-latches largest input controllable latch next output gate left right))
+      by false =
+          pow-mono {i = latchCount (lent largest input controllable latch next output gate left right)} {j = base .latches} (omega (
+            arith,
+            lent-latches largest input controllable latch next output gate left right,
+          ))

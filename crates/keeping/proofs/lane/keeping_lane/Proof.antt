@@ -41,7 +41,8 @@ returns c = let l = c .before .before .before .before .before .before .loop in
     let a = c .before .before .before .before .before .before .before .before .before .args in
     let set = notRanked (ranksIn (a .ranks .now)) (a .bound) in
     let free = sym (c .before .before .before .before .is-lane .ensures) ∙ not-true _ (c .before .before .before .if1 .taken) in
-    let keeps : keepsIn set (a .error) (a .next .now) (l .j) ≡ true = next-decides set (a .error) (a .next .now) (l .j) free ∙ ap set (sym (c .before .before .lane-number .ensures)) ∙ sym (c .before .is-unranked .ensures) ∙ c .if2 .taken in
+    let keeps : keepsIn set (a .error) (a .next .now) (l .j) ≡ true = next-decides set (a .error) (a .next .now) (l .j) free
+    ∙ ap set (sym (c .before .before .lane-number .ensures)) ∙ sym (c .before .is-unranked .ensures) ∙ c .if2 .taken in
     (search-here _ _ _ (l .j) (l .inv) (omega arith) keeps, λ h. c .before .before .lane-number .ensures)
 
 add-j : tie.Need-add-j Inv-loop μ-loop
@@ -57,7 +58,8 @@ loop-again c = let l = c .before .before .before .loop in
     let look = c .before .is-lane .ensures in
     let fails : keepsIn set (a .error) (a .next .now) (l .j) ≡ false =
     ⊎-elim
-    (λ w. next-decides set (a .error) (a .next .now) (l .j) (sym look ∙ not-true _ (w .0 .taken)) ∙ ap set (sym (w .1 .ensures)) ∙ sym (w .2 .ensures) ∙ w .3 .left)
+    (λ w. next-decides set (a .error) (a .next .now) (l .j) (sym look ∙ not-true _ (w .0 .taken)) ∙ ap set (sym (w .1 .ensures)) ∙ sym (w .2 .ensures)
+    ∙ w .3 .left)
     (λ w. error-fails set (a .error) (a .next .now) (l .j) (sym look ∙ not-false _ (w .left)))
     (c .if1 .came) in
     search-next _ _ _ (l .j) (l .inv) (omega arith) fails

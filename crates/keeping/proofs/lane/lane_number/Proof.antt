@@ -24,7 +24,8 @@ fewer-requires : tie.Need-fewer-requires Inv-loop μ-loop
 fewer-requires c κs = search needs
 
 loop-holds : tie.Need-loop-holds Inv-loop μ-loop
-loop-holds c = let a = c .before .before .args in rw (c .fewer .ensures) (top-start (laneBit (a .words .now) (a .j)) (min (length (a .words .now)) (base .latches)))
+loop-holds c = let a = c .before .before .args in
+    rw (c .fewer .ensures) (top-start (laneBit (a .words .now) (a .j)) (min (length (a .words .now)) (base .latches)))
 
 sub-k : tie.Need-sub-k Inv-loop μ-loop
 sub-k c = search needs

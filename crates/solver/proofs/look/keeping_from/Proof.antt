@@ -27,7 +27,8 @@ loop-holds : tie.Need-loop-holds Inv-loop μ-loop
 loop-holds c = let s = c .before .before .before .before in (searched-from _ _ _ (s .pre .1 .1 .0), s .pre .1 .0, search needs)
 
 hold-requires : tie.Need-hold-requires Inv-loop μ-loop
-hold-requires c κs = let s = c .before .before .before .before .before .before .before .before in (s .pre .0 .order, (c .before .before .before .loop .inv .1, omega (arith, s .pre .1 .1 .1)))
+hold-requires c κs = let s = c .before .before .before .before .before .before .before .before in
+    (s .pre .0 .order, (c .before .before .before .loop .inv .1, omega (arith, s .pre .1 .1 .1)))
 
 mul-fewer : tie.Need-mul-fewer Inv-loop μ-loop
 mul-fewer c = search needs

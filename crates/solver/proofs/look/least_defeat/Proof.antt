@@ -15,7 +15,8 @@ use Rattle.solver.proofs.look.least_defeat.Tie as tie
 
 abbrev Inv-loop : tie.InvT-loop
 Inv-loop net words₀ kept₀ planes₀ ranks bound state n controls first end place₀ words kept planes place =
-    Looked net (ranksIn ranks) bound state n kept place × Kept net (ranksIn ranks) bound kept planes × (length kept ≡ length kept₀) × (length planes ≡ length planes₀)
+    Looked net (ranksIn ranks) bound state n kept place × Kept net (ranksIn ranks) bound kept planes × (length kept ≡ length kept₀) ×
+    (length planes ≡ length planes₀)
 
 abbrev μ-loop : tie.MeasureT-loop
 μ-loop net words₀ kept₀ planes₀ ranks bound state n controls first end place₀ words kept planes place = end - place
@@ -100,7 +101,8 @@ same-length-2 : tie.Need-same-length-2 Inv-loop μ-loop
 same-length-2 c = search needs
 
 returns : tie.Need-returns Inv-loop μ-loop
-returns c = let s = c .before .before .before .before .before .before .before .before .before .before .before .before .before .before .before .before .before .before .before in
+returns c =
+    let s = c .before .before .before .before .before .before .before .before .before .before .before .before .before .before .before .before .before .before .before in
     let a = s .args in
     let net = a .net .now in
     let ranks = ranksIn (a .ranks .now) in
@@ -108,11 +110,14 @@ returns c = let s = c .before .before .before .before .before .before .before .b
     let n = c .before .before .before .before .before .before .before .before .before .before .before .before .before .controls in
     let l = c .before .before .before .before .before .before .before .before .before .before .loop in
     let f = c .before .before .before .before .before .look-on in
-    let at = looked-defeat net ranks (a .bound) (a .state) (u .result) (s .pre .0) (u .ensures) _ (l .place) (f .result) (n .result) in
-    (at (l .inv .0) (c .before .before .before .before .before .before .before .before .before .loop-test .taken) (n .ensures) (f .ensures .0) (c .if1 .taken), f .ensures .1)
+    let at = looked-defeat net ranks (a .bound) (a .state) (u .result) (s .pre .0) (u .ensures) _ (l .place) (f .result) (n .result) in (
+      at (l .inv .0) (c .before .before .before .before .before .before .before .before .before .loop-test .taken) (n .ensures) (f .ensures .0) (c .if1 .taken),
+      f .ensures .1,
+    )
 
 mul-first-failed-2 : tie.Need-mul-first-failed-2 Inv-loop μ-loop
-mul-first-failed-2 c = let s = c .before .before .before .before .before .before .before .before .before .before .before .before .before .before .before .before .before .before .before in
+mul-first-failed-2 c =
+    let s = c .before .before .before .before .before .before .before .before .before .before .before .before .before .before .before .before .before .before .before in
     let a = s .args in
     let net = a .net .now in
     let ranks = ranksIn (a .ranks .now) in
@@ -120,23 +125,34 @@ mul-first-failed-2 c = let s = c .before .before .before .before .before .before
     omega (arith, state-places net ranks (a .bound) (a .state) (u .result) (s .pre .0) (u .ensures), few-places net (s .pre .1 .small))
 
 slice-reshare-prefix-first-failed-2 : tie.Need-slice-reshare-prefix-first-failed-2 Inv-loop μ-loop
-slice-reshare-prefix-first-failed-2 c = let s = c .before .before .before .before .before .before .before .before .before .before .before .before .before .before .before .before .before .before .before in
+slice-reshare-prefix-first-failed-2 c =
+    let s = c .before .before .before .before .before .before .before .before .before .before .before .before .before .before .before .before .before .before .before in
     let a = s .args in
     let net = a .net .now in
     let ranks = ranksIn (a .ranks .now) in
     let u = c .before .before .before .before .before .before .before .before .before .before .before .before .before .before .readings in
-    omega (arith, state-places net ranks (a .bound) (a .state) (u .result) (s .pre .0) (u .ensures), c .before .before .before .before .before .look-on .ensures .1 .long)
+    omega (
+      arith,
+      state-places net ranks (a .bound) (a .state) (u .result) (s .pre .0) (u .ensures),
+      c .before .before .before .before .before .look-on .ensures .1 .long,
+    )
 
 slice-aggregate-first-failed-2 : tie.Need-slice-aggregate-first-failed-2 Inv-loop μ-loop
-slice-aggregate-first-failed-2 c = let s = c .before .before .before .before .before .before .before .before .before .before .before .before .before .before .before .before .before .before .before .before in
+slice-aggregate-first-failed-2 c =
+    let s = c .before .before .before .before .before .before .before .before .before .before .before .before .before .before .before .before .before .before .before .before in
     let a = s .args in
     let net = a .net .now in
     let ranks = ranksIn (a .ranks .now) in
     let u = c .before .before .before .before .before .before .before .before .before .before .before .before .before .before .before .readings in
-    sym (length-take-le _ _ (omega (arith, state-places net ranks (a .bound) (a .state) (u .result) (s .pre .0) (u .ensures), c .before .before .before .before .before .before .look-on .ensures .1 .long)))
+    sym (length-take-le _ _ (omega (
+      arith,
+      state-places net ranks (a .bound) (a .state) (u .result) (s .pre .0) (u .ensures),
+      c .before .before .before .before .before .before .look-on .ensures .1 .long,
+    )))
 
 add-first-failed : tie.Need-add-first-failed Inv-loop μ-loop
-add-first-failed c = let s = c .before .before .before .before .before .before .before .before .before .before .before .before .before .before .before .before .before .before .before .before in
+add-first-failed c =
+    let s = c .before .before .before .before .before .before .before .before .before .before .before .before .before .before .before .before .before .before .before .before in
     let a = s .args in
     let net = a .net .now in
     let ranks = ranksIn (a .ranks .now) in
@@ -148,7 +164,8 @@ first-failed-requires-2 : tie.Need-first-failed-requires-2 Inv-loop μ-loop
 first-failed-requires-2 c κs = search needs
 
 loop-less : tie.Need-loop-less Inv-loop μ-loop
-loop-less c = let s = c .before .before .before .before .before .before .before .before .before .before .before .before .before .before .before .before .before .before .before .before .before in
+loop-less c =
+    let s = c .before .before .before .before .before .before .before .before .before .before .before .before .before .before .before .before .before .before .before .before .before in
     let a = s .args in
     let net = a .net .now in
     let ranks = ranksIn (a .ranks .now) in
@@ -163,7 +180,8 @@ loop-less c = let s = c .before .before .before .before .before .before .before 
     omega (arith, more, on (omega (arith, l .inv .0 .started)) (omega (arith, more)) passed (c .first-failed2 .ensures))
 
 loop-again : tie.Need-loop-again Inv-loop μ-loop
-loop-again c = let s = c .before .before .before .before .before .before .before .before .before .before .before .before .before .before .before .before .before .before .before .before .before in
+loop-again c =
+    let s = c .before .before .before .before .before .before .before .before .before .before .before .before .before .before .before .before .before .before .before .before .before in
     let a = s .args in
     let net = a .net .now in
     let ranks = ranksIn (a .ranks .now) in

@@ -97,13 +97,15 @@ slice-aggregate-solve-net t c = search needs
 solve-net-requires : (t : ℕ) → lts.Need-solve-net-requires (claims t) (given t) solve-net.Post
 solve-net-requires t c κs = let s = c .before .before .before .before .before .before in
     let full = sym (c .before .before .too-many .ensures) ∙ c .before .if1 .taken in
-    let less = many-falls (s .args .net .now) (s .pre .1) _ _ (c .before .before .before .before .number-at .ensures) (c .before .before .before .number-at2 .ensures) full in
+    let less = many-falls (s .args .net .now) (s .pre .1) _ _ (c .before .before .before .before .number-at .ensures)
+    (c .before .before .before .number-at2 .ensures) full in
     (subst (λ (n : ℕ). excess empty < n) (s .pre .0) less, empty-small .order)
 
 returns : (t : ℕ) → lts.Need-returns (claims t) (given t) solve-net.Post
 returns t c = let s = c .before .before .before .before .before .before .before in
     let full = sym (c .before .before .before .too-many .ensures) ∙ c .before .before .if1 .taken in
-    let same = many-empty (s .args .net .now) (s .pre .1) _ _ (c .before .before .before .before .before .number-at .ensures) (c .before .before .before .before .number-at2 .ensures) full in
+    let same = many-empty (s .args .net .now) (s .pre .1) _ _ (c .before .before .before .before .before .number-at .ensures)
+    (c .before .before .before .before .number-at2 .ensures) full in
     c .solve-net .ensures ∙ ap (λ l. solutionOf (netGame l)) (empty-itself ∙ same)
 
 states-requires : (t : ℕ) → lts.Need-states-requires (claims t) (given t) solve-net.Post
@@ -116,7 +118,11 @@ mul-n : (t : ℕ) → lts.Need-mul-n (claims t) (given t) solve-net.Post
 mul-n t c = let s = c .before .before .before .before .before .before .before in
     let a = c .before .states in
     let b = c .readings in
-    omega (arith, places-are (s .args .net .now) (a .result) (b .result) (a .ensures) (b .ensures), few-places (s .args .net .now) (small t (c .before .before)))
+    omega (
+      arith,
+      places-are (s .args .net .now) (a .result) (b .result) (a .ensures) (b .ensures),
+      few-places (s .args .net .now) (small t (c .before .before)),
+    )
 
 controls-requires : (t : ℕ) → lts.Need-controls-requires (claims t) (given t) solve-net.Post
 controls-requires t c κs = small t (c .before .before)
@@ -154,8 +160,10 @@ returns-4 t c = c .solve-middling2 .ensures ∙ itself t (c .before .before .bef
 solve-small-requires : (t : ℕ) → lts.Need-solve-small-requires (claims t) (given t) solve-net.Post
 solve-small-requires t c κs = let s = c .before .before .before .before .before .before .before .before .before .before .before .before in
     let a = c .before .before .before .before .before .before .states in
-    let b = c .before .before .before .before .before .readings in
-    (small t (c .before .before .before .before .before .before .before), omega (arith, c .if4 .left, places-are (s .args .net .now) (a .result) (b .result) (a .ensures) (b .ensures)))
+    let b = c .before .before .before .before .before .readings in (
+      small t (c .before .before .before .before .before .before .before),
+      omega (arith, c .if4 .left, places-are (s .args .net .now) (a .result) (b .result) (a .ensures) (b .ensures)),
+    )
 
 returns-5 : (t : ℕ) → lts.Need-returns-5 (claims t) (given t) solve-net.Post
 returns-5 t c = c .solve-small .ensures ∙ itself t (c .before .before .before .before .before .before .before .before)
