@@ -1,24 +1,23 @@
 -- The attacks that stand beside the ranks of a round: of each state that has a rank, the game's own attack; of another 0. A round keeps
 -- this, and behind the last round it is the list of attacks. Assumes nothing.
-use Prim.Native.Nat.{ℕ, zero, suc, _+_, _-_, _^_, _<_, _≤_}
+use Prim.Native.Nat.{ℕ, suc, _-_, _^_, _<_, _≤_}
 use native.Mathlib.Omega.{arith}
 use native.Mathlib.Decide.{decLt}
-use native.Mathlib.Numerals.{add-one}
-use mathlib.Core.Bool.{Bool, true, false, cond, not}
+use mathlib.Core.Bool.{Bool, true, cond, not}
 use mathlib.Core.List.{List}
 use mathlib.Core.Path.{_≡_, refl, sym, ap, ap₂, _∙_}
-use lib.Dec.{ltb, eqb}
+use lib.Dec.{ltb}
 use lib.ListN.{length, getD, List·getD-eq-default}
 use lib.Seq.{ext-getD}
-use borrow.Author.Tests.{lt-ltb, le-ltb, eqb-true, not-false, ltb-true}
+use borrow.Author.Tests.{lt-ltb, le-ltb}
 use Rattle.below.specs.Least.{least, any}
 use Rattle.below.specs.Table.{table}
-use Rattle.below.proofs.laws.Least.{least-le, least-same, any-none}
+use Rattle.below.proofs.laws.Least.{least-same}
 use Rattle.below.proofs.laws.Table.{length-table, getD-table, getD-table-past}
 use Rattle.circuit.specs.Limits.{base}
 use Rattle.game.specs.Attack.{attack}
 use Rattle.game.specs.Game.{Game, Proper}
-use Rattle.game.specs.Rank.{notRanked, defeats, defeated, round, ranksAfter, rank, inRegion}
+use Rattle.game.specs.Rank.{defeats, defeated, round, ranksAfter, rank, inRegion}
 use Rattle.game.proofs.laws.Keeps.{defeated-by}
 use Rattle.game.proofs.laws.Rank.{settled}
 use Rattle.game.proofs.laws.Rounds.{Later, stays, none, after, later-than}

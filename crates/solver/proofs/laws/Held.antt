@@ -2,16 +2,15 @@
 -- block holds it. Assumes nothing.
 use Prim.Native.Nat.{ℕ, _+_, _*_, _-_, _/_, _%_, _<_, _≤_, min}
 use native.Mathlib.Omega.{arith}
-use native.Mathlib.Decide.{decLt, ℕ-discrete}
-use mathlib.Core.Bool.{Bool, true, false, cond, not, _&&_}
+use native.Mathlib.Decide.{ℕ-discrete}
+use mathlib.Core.Bool.{Bool, not, _&&_}
 use mathlib.Core.List.{List}
-use mathlib.Core.Path.{_≡_, refl, sym, ap, ap₂, _∙_, subst}
-use lib.Dec.{ltb, eqb}
+use mathlib.Core.Path.{_≡_, refl, sym, ap, ap₂, _∙_}
 use lib.ListN.{length, getD, take, drop, length-take, length-drop}
 use lib.Seq.{getD-take, getD-drop}
-use borrow.Author.Tests.{lt-ltb, le-ltb, eq-eqb, ne-eqb}
+use borrow.Author.Tests.{lt-ltb}
 use Rattle.below.specs.Table.{table}
-use Rattle.below.proofs.laws.Table.{table-same, length-table, getD-table}
+use Rattle.below.proofs.laws.Table.{table-same}
 use Rattle.bits.specs.Bit.{oneIf}
 use Rattle.bits.specs.Digits.{sum}
 use Rattle.blocks.specs.Evaluated.{literals, evaluated, errorIn, nextIn}

@@ -5,7 +5,7 @@ use native.Mathlib.Omega.{arith}
 use native.Mathlib.Decide.{decLt, ℕ-discrete}
 use mathlib.Core.Bool.{Bool, true, false, cond, not, _&&_, true≢false}
 use mathlib.Core.List.{List}
-use mathlib.Core.Path.{_≡_, refl, sym, ap, _∙_, subst}
+use mathlib.Core.Path.{_≡_, refl, sym, ap, _∙_}
 use lib.Dec.{ltb}
 use lib.ListN.{length, getD, set, length-set, List·getD-eq-default}
 use lib.Seq.{getD-set-same, getD-set-other}
@@ -14,7 +14,7 @@ use Rattle.below.specs.Least.{least}
 use Rattle.below.specs.LeastFrom.{leastFrom}
 use Rattle.below.specs.Table.{table}
 use Rattle.below.proofs.laws.Least.{least-is, least-none, least-before}
-use Rattle.below.proofs.laws.LeastFrom.{from-le, from-holds, from-start, from-before}
+use Rattle.below.proofs.laws.LeastFrom.{from-holds, from-start, from-before}
 use Rattle.below.proofs.laws.Table.{length-table, getD-table, getD-table-past}
 use Rattle.circuit.specs.Limits.{base}
 use Rattle.game.specs.Game.{Game}

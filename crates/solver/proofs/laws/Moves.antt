@@ -103,15 +103,6 @@ module _ (net : List ℕ) (small : Small net) where
   pub moves-fit : (p n : ℕ) → p < places net → n ≡ 2 ^ netControls net → p * n + n ≤ 8388608
   moves-fit p n h e = subst (λ (m : ℕ). p * m + m ≤ 8388608) (sym e) (few-moves p h)
 
-  pub first-fits : (s u : ℕ) → s < 2 ^ netLatches net → u ≡ 2 ^ netReadings net → s * u ≤ 32768
-  first-fits s u h e = omega (arith, mul-le-mul low narrow)
-    where
-      low : s ≤ 2 ^ base .latches
-      low = omega (arith, few-states)
-
-      narrow : u ≤ 2 ^ base .uncontrollable
-      narrow = omega (arith, few-readings)
-
   -- how many there are, by the numbers of the net
   pub controls-are : (n : ℕ) → n ≡ getD net 0 0 → 2 ^ min n (base .latches) ≡ 2 ^ netControls net
   unfolding netControls

@@ -2,9 +2,7 @@
 use Prim.Native.Nat.{ℕ, _*_, _/_, _%_, _^_, _<_, _≤_}
 use native.Mathlib.Omega.{arith}
 use mathlib.Core.Bool.{Bool, cond}
-use mathlib.Core.List.{List}
 use mathlib.Core.Path.{_≡_, ap, _∙_}
-use lib.Dec.{ltb}
 use lib.ListN.{length, getD, take}
 use borrow.Author.Tests.{lt-ltb}
 use Rattle.below.specs.Table.{table}

@@ -1,6 +1,6 @@
 -- The games that the solver plays: that of a circuit's net, or of the empty net where it has too many inputs of a sort; and the list of the
 -- game's replies. Assumes nothing.
-use Prim.Native.Nat.{ℕ, suc, _+_, _*_, _/_, _%_, _^_, min, _<_, _≤_}
+use Prim.Native.Nat.{ℕ, suc, _*_, _/_, _%_, _^_, min, _<_, _≤_}
 use native.Mathlib.Omega.{arith}
 use native.Mathlib.Decide.{decLt}
 use mathlib.Core.Bool.{Bool, true, false, cond, _||_}
@@ -9,18 +9,16 @@ use mathlib.Core.Path.{_≡_, refl, sym, ap, _∙_, subst}
 use lib.Dec.{ltb}
 use lib.ListN.{length, getD, take, replicate, length-take, length-append, length-map, length-replicate}
 use lib.Seq.{take-take, take-append-seam}
-use lib.Pow.{pow-mono}
 use borrow.Author.Tests.{le-ltb}
 use Rattle.below.specs.Table.{table}
 use Rattle.below.proofs.laws.Table.{table-same, length-table}
-use Rattle.circuit.specs.Circuit.{Circuit, Latch, Gate, latchCount, uncontrollableCount, controllableCount, inputsThat, tooMany}
+use Rattle.circuit.specs.Circuit.{Circuit, Latch, Gate, latchCount, uncontrollableCount, controllableCount, inputsThat}
 use Rattle.circuit.specs.Limits.{base}
 use Rattle.circuit.specs.Literal.{constant, variable}
 use Rattle.circuit.specs.Stored.{emptyCircuit, meant, lent, inputsOf, latchesOf, gatesOf, padded, solvable}
 use Rattle.circuit.specs.declared.Circuit.{Circuit as Value}
-use Rattle.circuit.proofs.laws.Solvable.{many-solved-empty, few-solved, few-are, lent-latches}
+use Rattle.circuit.proofs.laws.Solvable.{many-solved-empty, few-solved, few-are}
 use Rattle.game.specs.CircuitGame.{circuitGame}
-use Rattle.game.specs.Game.{Game}
 use Rattle.game.specs.Reply.{reply}
 use Rattle.net.specs.InOrder.{InOrder}
 use Rattle.net.specs.Made.{MadeAs, most}
@@ -175,17 +173,3 @@ net-few c room =
 
     operands : List ℕ
     operands = operandsOf (c .gates) (gateStart c) (firstNames c)
-
--- of a circuit over lent lists: no more states than a circuit may have
-module _ (largest : ℕ) (input controllable latch next : List ℕ) (output : ℕ) (gate left right : List ℕ) where
-  pub solvable-few : (circuitGame (solvable (lent largest input controllable latch next output gate left right))) .states ≤ 2 ^ base .latches
-  unfolding solvable circuitGame emptyCircuit latchCount
-  solvable-few = by (tooMany base (lent largest input controllable latch next output gate left right))
-    where
-      by : (b : Bool) → 2 ^ latchCount (cond b emptyCircuit (lent largest input controllable latch next output gate left right)) ≤ 2 ^ base .latches
-      by true = omega arith
-      by false =
-          pow-mono {i = latchCount (lent largest input controllable latch next output gate left right)} {j = base .latches} (omega (
-            arith,
-            lent-latches largest input controllable latch next output gate left right,
-          ))

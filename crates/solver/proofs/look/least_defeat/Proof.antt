@@ -101,14 +101,14 @@ same-length-2 : tie.Need-same-length-2 Inv-loop μ-loop
 same-length-2 c = search needs
 
 returns : tie.Need-returns Inv-loop μ-loop
-returns c =
-    let s = c .before .before .before .before .before .before .before .before .before .before .before .before .before .before .before .before .before .before .before in
+returns c = let c10 = c .before .before .before .before .before .before .before .before .before .before in
+    let s = c10 .before .before .before .before .before .before .before .before .before in
     let a = s .args in
     let net = a .net .now in
     let ranks = ranksIn (a .ranks .now) in
-    let u = c .before .before .before .before .before .before .before .before .before .before .before .before .before .before .readings in
-    let n = c .before .before .before .before .before .before .before .before .before .before .before .before .before .controls in
-    let l = c .before .before .before .before .before .before .before .before .before .before .loop in
+    let u = c10 .before .before .before .before .readings in
+    let n = c10 .before .before .before .controls in
+    let l = c10 .loop in
     let f = c .before .before .before .before .before .look-on in
     let at = looked-defeat net ranks (a .bound) (a .state) (u .result) (s .pre .0) (u .ensures) _ (l .place) (f .result) (n .result) in (
       at (l .inv .0) (c .before .before .before .before .before .before .before .before .before .loop-test .taken) (n .ensures) (f .ensures .0) (c .if1 .taken),
@@ -116,21 +116,21 @@ returns c =
     )
 
 mul-first-failed-2 : tie.Need-mul-first-failed-2 Inv-loop μ-loop
-mul-first-failed-2 c =
-    let s = c .before .before .before .before .before .before .before .before .before .before .before .before .before .before .before .before .before .before .before in
+mul-first-failed-2 c = let c10 = c .before .before .before .before .before .before .before .before .before .before in
+    let s = c10 .before .before .before .before .before .before .before .before .before in
     let a = s .args in
     let net = a .net .now in
     let ranks = ranksIn (a .ranks .now) in
-    let u = c .before .before .before .before .before .before .before .before .before .before .before .before .before .before .readings in
+    let u = c10 .before .before .before .before .readings in
     omega (arith, state-places net ranks (a .bound) (a .state) (u .result) (s .pre .0) (u .ensures), few-places net (s .pre .1 .small))
 
 slice-reshare-prefix-first-failed-2 : tie.Need-slice-reshare-prefix-first-failed-2 Inv-loop μ-loop
-slice-reshare-prefix-first-failed-2 c =
-    let s = c .before .before .before .before .before .before .before .before .before .before .before .before .before .before .before .before .before .before .before in
+slice-reshare-prefix-first-failed-2 c = let c10 = c .before .before .before .before .before .before .before .before .before .before in
+    let s = c10 .before .before .before .before .before .before .before .before .before in
     let a = s .args in
     let net = a .net .now in
     let ranks = ranksIn (a .ranks .now) in
-    let u = c .before .before .before .before .before .before .before .before .before .before .before .before .before .before .readings in
+    let u = c10 .before .before .before .before .readings in
     omega (
       arith,
       state-places net ranks (a .bound) (a .state) (u .result) (s .pre .0) (u .ensures),
@@ -138,12 +138,13 @@ slice-reshare-prefix-first-failed-2 c =
     )
 
 slice-aggregate-first-failed-2 : tie.Need-slice-aggregate-first-failed-2 Inv-loop μ-loop
-slice-aggregate-first-failed-2 c =
-    let s = c .before .before .before .before .before .before .before .before .before .before .before .before .before .before .before .before .before .before .before .before in
+slice-aggregate-first-failed-2 c = let c10 = c .before .before .before .before .before .before .before .before .before .before in
+    let c20 = c10 .before .before .before .before .before .before .before .before .before .before in
+    let s = c20 in
     let a = s .args in
     let net = a .net .now in
     let ranks = ranksIn (a .ranks .now) in
-    let u = c .before .before .before .before .before .before .before .before .before .before .before .before .before .before .before .readings in
+    let u = c10 .before .before .before .before .before .readings in
     sym (length-take-le _ _ (omega (
       arith,
       state-places net ranks (a .bound) (a .state) (u .result) (s .pre .0) (u .ensures),
@@ -151,45 +152,48 @@ slice-aggregate-first-failed-2 c =
     )))
 
 add-first-failed : tie.Need-add-first-failed Inv-loop μ-loop
-add-first-failed c =
-    let s = c .before .before .before .before .before .before .before .before .before .before .before .before .before .before .before .before .before .before .before .before in
+add-first-failed c = let c10 = c .before .before .before .before .before .before .before .before .before .before in
+    let c20 = c10 .before .before .before .before .before .before .before .before .before .before in
+    let s = c20 in
     let a = s .args in
     let net = a .net .now in
     let ranks = ranksIn (a .ranks .now) in
-    let u = c .before .before .before .before .before .before .before .before .before .before .before .before .before .before .before .readings in
-    let more = c .before .before .before .before .before .before .before .before .before .before .loop-test .taken in
+    let u = c10 .before .before .before .before .before .readings in
+    let more = c10 .loop-test .taken in
     omega (arith, more, state-places net ranks (a .bound) (a .state) (u .result) (s .pre .0) (u .ensures), few-places net (s .pre .1 .small))
 
 first-failed-requires-2 : tie.Need-first-failed-requires-2 Inv-loop μ-loop
 first-failed-requires-2 c κs = search needs
 
 loop-less : tie.Need-loop-less Inv-loop μ-loop
-loop-less c =
-    let s = c .before .before .before .before .before .before .before .before .before .before .before .before .before .before .before .before .before .before .before .before .before in
+loop-less c = let c10 = c .before .before .before .before .before .before .before .before .before .before in
+    let c20 = c10 .before .before .before .before .before .before .before .before .before .before in
+    let s = c20 .before in
     let a = s .args in
     let net = a .net .now in
     let ranks = ranksIn (a .ranks .now) in
-    let u = c .before .before .before .before .before .before .before .before .before .before .before .before .before .before .before .before .readings in
-    let n = c .before .before .before .before .before .before .before .before .before .before .before .before .before .before .before .controls in
-    let l = c .before .before .before .before .before .before .before .before .before .before .before .before .loop in
+    let u = c10 .before .before .before .before .before .before .readings in
+    let n = c10 .before .before .before .before .before .controls in
+    let l = c10 .before .before .loop in
     let f = c .before .before .before .before .before .before .before .look-on in
-    let more = c .before .before .before .before .before .before .before .before .before .before .before .loop-test .taken in
+    let more = c10 .before .loop-test .taken in
     let at = looked-passed net ranks (a .bound) (a .state) (u .result) (s .pre .0) (u .ensures) _ (l .place) (f .result) (n .result) in
     let passed = at (l .inv .0) more (n .ensures) (f .ensures .0) (c .before .before .if1 .left) in
     let on = looked-later net ranks (a .bound) (a .state) (u .result) (s .pre .0) (u .ensures) _ _ (f .ensures .1) (l .place + 1) _ in
     omega (arith, more, on (omega (arith, l .inv .0 .started)) (omega (arith, more)) passed (c .first-failed2 .ensures))
 
 loop-again : tie.Need-loop-again Inv-loop μ-loop
-loop-again c =
-    let s = c .before .before .before .before .before .before .before .before .before .before .before .before .before .before .before .before .before .before .before .before .before in
+loop-again c = let c10 = c .before .before .before .before .before .before .before .before .before .before in
+    let c20 = c10 .before .before .before .before .before .before .before .before .before .before in
+    let s = c20 .before in
     let a = s .args in
     let net = a .net .now in
     let ranks = ranksIn (a .ranks .now) in
-    let u = c .before .before .before .before .before .before .before .before .before .before .before .before .before .before .before .before .readings in
-    let n = c .before .before .before .before .before .before .before .before .before .before .before .before .before .before .before .controls in
-    let l = c .before .before .before .before .before .before .before .before .before .before .before .before .loop in
+    let u = c10 .before .before .before .before .before .before .readings in
+    let n = c10 .before .before .before .before .before .controls in
+    let l = c10 .before .before .loop in
     let f = c .before .before .before .before .before .before .before .look-on in
-    let more = c .before .before .before .before .before .before .before .before .before .before .before .loop-test .taken in
+    let more = c10 .before .loop-test .taken in
     let at = looked-passed net ranks (a .bound) (a .state) (u .result) (s .pre .0) (u .ensures) _ (l .place) (f .result) (n .result) in
     let passed = at (l .inv .0) more (n .ensures) (f .ensures .0) (c .before .before .if1 .left) in
     let on = looked-on net ranks (a .bound) (a .state) (u .result) (s .pre .0) (u .ensures) _ _ (f .ensures .1) (l .place + 1) _ in

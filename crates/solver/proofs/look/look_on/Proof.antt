@@ -1,7 +1,6 @@
 -- `solver::look::look_on` meets its contract: the search behind the control kept finds none, or one that is kept.
-use Prim.Native.Nat.{ℕ, _+_, _*_, _-_, _^_, _≤_}
+use Prim.Native.Nat.{_+_, _*_, _-_}
 use native.Mathlib.Omega.{arith}
-use mathlib.Core.Path.{_≡_}
 use lib.ListN.{length-set}
 use Rattle.keeping.specs.RankList.{ranksIn}
 use Rattle.solver.proofs.laws.Kept.{look-none, look-later, look-found, look-kept, kept-held, kept-put}
@@ -82,7 +81,8 @@ returns c = let s = c .before .before .before .before .before .before .before .b
     )
 
 sub-control : tie.Need-sub-control
-sub-control c = let s = c .before .before .before .before .before .before .before .before .before .before .before .before .before .before in
+sub-control c = let c10 = c .before .before .before .before .before .before .before .before .before .before in
+    let s = c10 .before .before .before .before in
     let a = s .args in
     let n = c .before .before .before .before .before .before .before .before .before .controls in
     let f = c .before .before .before .before .before .keeping-from in
@@ -90,13 +90,15 @@ sub-control c = let s = c .before .before .before .before .before .before .befor
     (s .pre .0) (n .ensures) (s .pre .1 .1) (f .ensures .0) (c .before .if1 .left)
 
 cast-kept : tie.Need-cast-kept
-cast-kept c = let s = c .before .before .before .before .before .before .before .before .before .before .before .before .before .before in
+cast-kept c = let c10 = c .before .before .before .before .before .before .before .before .before .before in
+    let s = c10 .before .before .before .before in
     let a = s .args in
     let n = c .before .before .before .before .before .before .before .before .before .controls in
     omega (arith, c .before .if1 .left, n .ensures, few-controls (a .net .now) (s .pre .1 .0 .small))
 
 add-kept : tie.Need-add-kept
-add-kept c = let s = c .before .before .before .before .before .before .before .before .before .before .before .before .before .before in
+add-kept c = let c10 = c .before .before .before .before .before .before .before .before .before .before in
+    let s = c10 .before .before .before .before in
     let a = s .args in
     let n = c .before .before .before .before .before .before .before .before .before .controls in
     omega (arith, c .before .if1 .left, n .ensures, few-controls (a .net .now) (s .pre .1 .0 .small))
@@ -120,10 +122,12 @@ mul-kept-4 : tie.Need-mul-kept-4
 mul-kept-4 c = search needs
 
 slice-write-kept-2 : tie.Need-slice-write-kept-2
-slice-write-kept-2 c = let s = c .before .before .before .before .before .before .before .before .before .before .before .before .before .before in
+slice-write-kept-2 c = let c10 = c .before .before .before .before .before .before .before .before .before .before in
+    let s = c10 .before .before .before .before in
     let a = s .args in
-    let l = length-set (a .kept .now) (2 * a .place)
-    (c .before .before .before .before .before .keeping-from .result .number - a .place * c .before .before .before .before .before .before .before .before .before .controls .result + 1) in
+    let n = c .before .before .before .before .before .before .before .before .before .controls in
+    let f = c .before .before .before .before .before .keeping-from in
+    let l = length-set (a .kept .now) (2 * a .place) (f .result .number - a .place * n .result + 1) in
     omega (arith, l, s .pre .1 .0 .long, s .pre .0)
 
 same-length-2 : tie.Need-same-length-2
@@ -133,7 +137,8 @@ same-length-3 : tie.Need-same-length-3
 same-length-3 c = search needs
 
 returns-2 : tie.Need-returns-2
-returns-2 c = let s = c .before .before .before .before .before .before .before .before .before .before .before .before .before .before in
+returns-2 c = let c10 = c .before .before .before .before .before .before .before .before .before .before in
+    let s = c10 .before .before .before .before in
     let a = s .args in
     let n = c .before .before .before .before .before .before .before .before .before .controls in
     let f = c .before .before .before .before .before .keeping-from in (

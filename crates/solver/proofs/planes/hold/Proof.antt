@@ -1,5 +1,4 @@
 -- `solver::planes::hold` meets its contract: the slot holds the block already, or it is evaluated into it.
-use mathlib.Core.Path.{_≡_}
 use Rattle.solver.proofs.laws.Held.{hold-old, hold-new}
 use borrow.Author.Needs.{needs}
 use Rattle.solver.proofs.planes.hold.Statement.{statement}

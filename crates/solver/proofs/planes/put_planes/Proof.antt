@@ -1,5 +1,5 @@
 -- `solver::planes::put_planes` meets its contract: the words passed are those of the block, the others as before.
-use Prim.Native.Nat.{ℕ, _+_, _-_, _≤_}
+use Prim.Native.Nat.{_+_, _-_, _≤_}
 use native.Mathlib.Omega.{arith}
 use mathlib.Core.Bool.{cond}
 use lib.Dec.{ltb}

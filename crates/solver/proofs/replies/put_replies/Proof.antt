@@ -1,11 +1,8 @@
 -- `solver::replies::put_replies` meets its contract: what is passed is as the search at each place says.
 use Prim.Native.Nat.{ℕ, _*_, _-_, _/_, _%_, _^_, _≤_}
 use native.Mathlib.Omega.{arith}
-use mathlib.Core.Bool.{cond}
-use mathlib.Core.Path.{_≡_, ap, ap₂, _∙_}
-use lib.Dec.{ltb}
+use mathlib.Core.Path.{_≡_, ap, _∙_}
 use lib.ListN.{length}
-use Rattle.below.specs.Table.{table}
 use Rattle.below.proofs.laws.Filled.{Filled, filled-start, filled-next, filled-zeros}
 use Rattle.below.proofs.laws.Table.{length-table}
 use Rattle.circuit.specs.Limits.{base}
@@ -61,8 +58,9 @@ reply-at-requires c κs = let s = c .before .before .before .before .before .bef
     (s .pre .0, (omega (arith, c .before .before .before .loop-test .taken, l .inv .2), l .inv .3))
 
 slice-write-replies : tie.Need-slice-write-replies Inv-loop μ-loop
-slice-write-replies c = let l = c .before .before .before .before .before .before .before .before .before .loop in
-    let s = c .before .before .before .before .before .before .before .before .before .before .before .before .before .before .before .before .before in
+slice-write-replies c = let c10 = c .before .before .before .before .before .before .before .before .before .before in
+    let l = c .before .before .before .before .before .before .before .before .before .loop in
+    let s = c10 .before .before .before .before .before .before .before in
     omega (
       arith,
       l .inv .0 .long,
@@ -79,8 +77,9 @@ loop-less : tie.Need-loop-less Inv-loop μ-loop
 loop-less c = search needs
 
 loop-again : tie.Need-loop-again Inv-loop μ-loop
-loop-again c = let l = c .before .before .before .before .before .before .before .before .before .loop in
-    let s = c .before .before .before .before .before .before .before .before .before .before .before .before .before .before .before .before .before in
+loop-again c = let c10 = c .before .before .before .before .before .before .before .before .before .before in
+    let l = c .before .before .before .before .before .before .before .before .before .loop in
+    let s = c10 .before .before .before .before .before .before .before in
     let f = c .before .before .before .before .reply-at in (
       filled-next _ _ (l .i) (f .result) (l .replies) (l .inv .0) (omega (
         arith,

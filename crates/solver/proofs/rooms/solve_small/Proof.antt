@@ -1,12 +1,10 @@
 -- `solver::rooms::solve_small` meets its contract: before the first look nothing is kept.
-use Prim.Native.Nat.{ℕ, _*_, _^_}
+use Prim.Native.Nat.{ℕ, _*_}
 use native.Mathlib.Omega.{arith}
 use mathlib.Core.Path.{_≡_, ap, _∙_}
 use lib.ListN.{length}
 use Rattle.below.proofs.laws.Table.{length-table}
-use Rattle.circuit.specs.Limits.{base}
 use Rattle.solver.proofs.laws.Kept.{kept-start}
-use Rattle.solver.proofs.laws.Moves.{few-places}
 use borrow.Author.Needs.{needs}
 use Rattle.solver.proofs.rooms.solve_small.Statement.{statement}
 use Rattle.solver.proofs.rooms.solve_small.Tie as tie

@@ -1,7 +1,7 @@
 -- `solver::rounds::round` meets its contract: what is passed is as the round says, the rest as before, and what is kept goes on.
 use Prim.Native.Nat.{ℕ, _-_, _^_, _≤_}
 use native.Mathlib.Omega.{arith}
-use mathlib.Core.Path.{_≡_, sym, ap, _∙_}
+use mathlib.Core.Path.{_≡_, ap, _∙_}
 use lib.ListN.{length, getD}
 use Rattle.below.specs.Table.{table}
 use Rattle.below.proofs.laws.Filled.{Filled, filled-start, filled-next, filled-end}
@@ -71,8 +71,9 @@ array-write-after c = let l = c .before .before .before .before .before .before 
     omega (arith, c .before .before .before .before .before .before .before .before .before .before .loop-test .taken, l .inv .6)
 
 slice-write-attacks : tie.Need-slice-write-attacks Inv-loop μ-loop
-slice-write-attacks c = let l = c .before .before .before .before .before .before .before .before .before .before .before .loop in
-    omega (arith, l .inv .1 .long, c .before .before .before .before .before .before .before .before .before .before .before .before .before .before .before .before .before .pre .1 .0, c .before .before .before .before .before .before .before .before .before .before .loop-test .taken, l .inv .6)
+slice-write-attacks c = let c10 = c .before .before .before .before .before .before .before .before .before .before in
+    let l = c10 .before .loop in
+    omega (arith, l .inv .1 .long, c10 .before .before .before .before .before .before .before .pre .1 .0, c10 .loop-test .taken, l .inv .6)
 
 add-s : tie.Need-add-s Inv-loop μ-loop
 add-s c = let l = c .before .before .before .before .before .before .before .before .before .before .before .loop in
@@ -82,11 +83,12 @@ loop-less : tie.Need-loop-less Inv-loop μ-loop
 loop-less c = search needs
 
 loop-again : tie.Need-loop-again Inv-loop μ-loop
-loop-again c = let l = c .before .before .before .before .before .before .before .before .before .before .before .loop in
+loop-again c = let c10 = c .before .before .before .before .before .before .before .before .before .before in
+    let l = c10 .before .loop in
     let r = c .before .before .before .before .ranked in
-    let s = c .before .before .before .before .before .before .before .before .before .before .before .before .before .before .before .before .before in
+    let s = c10 .before .before .before .before .before .before .before in
     let a = s .args in
-    let w = c .before .before .before .before .before .before .before .before .before .before .loop-test .taken in (
+    let w = c10 .loop-test .taken in (
       (
         filled-next _ _ (l .s) (r .result .rank) (l .after) (l .inv .0 .0) (omega (arith, w, l .inv .0 .2, l .inv .6)) (r .ensures .0),
         omega (arith, w),

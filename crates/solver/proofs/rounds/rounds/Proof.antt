@@ -78,9 +78,13 @@ slice-aggregate-changes-2 c = let r = c .before .before .before .before .before 
     search needs
 
 changes-requires : tie.Need-changes-requires Inv-loop μ-loop
-changes-requires c κs = let l = c .before .before .before .before .before .before .before .before .before .before .before .before .before .before .loop in
-    let r = c .before .before .before .before .before .before .before .before .round in
-    (omega (arith, few (c .before .before .before .before .before .before .before .before .before .before .before .before .before .before .before .before .before .before .before .before .before), l .inv .5, ranked-long _ _ _ (l .ranks) (l .inv .0)), omega (arith, few (c .before .before .before .before .before .before .before .before .before .before .before .before .before .before .before .before .before .before .before .before .before), l .inv .5, round-long _ _ _ _ (r .result) (r .ensures .0)))
+changes-requires c κs = let c10 = c .before .before .before .before .before .before .before .before .before .before in
+    let c20 = c10 .before .before .before .before .before .before .before .before .before .before in
+    let l = c10 .before .before .before .before .loop in
+    let r = c .before .before .before .before .before .before .before .before .round in (
+      omega (arith, few (c20 .before), l .inv .5, ranked-long _ _ _ (l .ranks) (l .inv .0)),
+      omega (arith, few (c20 .before), l .inv .5, round-long _ _ _ _ (r .result) (r .ensures .0)),
+    )
 
 same-length : tie.Need-same-length Inv-loop μ-loop
 same-length c = search needs
@@ -89,26 +93,28 @@ same-length-2 : tie.Need-same-length-2 Inv-loop μ-loop
 same-length-2 c = search needs
 
 same-length-3 : tie.Need-same-length-3 Inv-loop μ-loop
-same-length-3 c =
-    let s = c .before .before .before .before .before .before .before .before .before .before .before .before .before .before .before .before .before .before .before .before .before .before .before in
-    let l = c .before .before .before .before .before .before .before .before .before .before .before .before .before .before .before .before .loop in
-    let r = c .before .before .before .before .before .before .before .before .before .before .round in
+same-length-3 c = let c10 = c .before .before .before .before .before .before .before .before .before .before in
+    let c20 = c10 .before .before .before .before .before .before .before .before .before .before in
+    let s = c20 .before .before .before in
+    let l = c10 .before .before .before .before .before .before .loop in
+    let r = c10 .round in
     let new = attacks-next _ _ (l .k) (l .ranks) (fair s) (l .inv .0) (omega (
       arith,
-      c .before .before .before .before .before .before .before .before .before .before .before .before .before .before .before .loop-test .taken,
+      c10 .before .before .before .before .before .loop-test .taken,
       l .inv .5,
     )) _ (r .result) _ (l .inv .1) (r .ensures .0) (r .ensures .1) in
     new .long ∙ sym (attacks-long s)
 
 returns : tie.Need-returns Inv-loop μ-loop
-returns c =
-    let s = c .before .before .before .before .before .before .before .before .before .before .before .before .before .before .before .before .before .before .before .before .before .before .before in
+returns c = let c10 = c .before .before .before .before .before .before .before .before .before .before in
+    let c20 = c10 .before .before .before .before .before .before .before .before .before .before in
+    let s = c20 .before .before .before in
     let f = fair s in
-    let l = c .before .before .before .before .before .before .before .before .before .before .before .before .before .before .before .before .loop in
-    let r = c .before .before .before .before .before .before .before .before .before .before .round in
+    let l = c10 .before .before .before .before .before .before .loop in
+    let r = c10 .round in
     let more : l .k < 2 ^ netLatches (s .args .net .now) = omega (
       arith,
-      c .before .before .before .before .before .before .before .before .before .before .before .before .before .before .before .loop-test .taken,
+      c10 .before .before .before .before .before .loop-test .taken,
       l .inv .5,
     ) in
     let new = attacks-next _ _ (l .k) (l .ranks) f (l .inv .0) more _ (r .result) _ (l .inv .1) (r .ensures .0) (r .ensures .1) in
@@ -125,25 +131,28 @@ returns c =
     )
 
 add-k : tie.Need-add-k Inv-loop μ-loop
-add-k c = let l = c .before .before .before .before .before .before .before .before .before .before .before .before .before .before .before .before .loop in
+add-k c = let c10 = c .before .before .before .before .before .before .before .before .before .before in
+    let c20 = c10 .before .before .before .before .before .before .before .before .before .before in
+    let l = c10 .before .before .before .before .before .before .loop in
     omega (
       arith,
       l .inv .0 .within,
-      few (c .before .before .before .before .before .before .before .before .before .before .before .before .before .before .before .before .before .before .before .before .before .before .before),
+      few (c20 .before .before .before),
     )
 
 loop-less : tie.Need-loop-less Inv-loop μ-loop
 loop-less c = search needs
 
 loop-again : tie.Need-loop-again Inv-loop μ-loop
-loop-again c =
-    let s = c .before .before .before .before .before .before .before .before .before .before .before .before .before .before .before .before .before .before .before .before .before .before .before in
+loop-again c = let c10 = c .before .before .before .before .before .before .before .before .before .before in
+    let c20 = c10 .before .before .before .before .before .before .before .before .before .before in
+    let s = c20 .before .before .before in
     let f = fair s in
-    let l = c .before .before .before .before .before .before .before .before .before .before .before .before .before .before .before .before .loop in
-    let r = c .before .before .before .before .before .before .before .before .before .before .round in
+    let l = c10 .before .before .before .before .before .before .loop in
+    let r = c10 .round in
     let more : l .k < 2 ^ netLatches (s .args .net .now) = omega (
       arith,
-      c .before .before .before .before .before .before .before .before .before .before .before .before .before .before .before .loop-test .taken,
+      c10 .before .before .before .before .before .loop-test .taken,
       l .inv .5,
     ) in (
       rounds-next _ _ (l .k) (l .ranks) (r .result) f (l .inv .0) more (r .ensures .0),

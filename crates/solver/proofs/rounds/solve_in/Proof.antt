@@ -54,9 +54,10 @@ same-length-2 c = search needs
 
 returns : tie.Need-returns
 unfolding solutionOf
-returns c =
-    let s = c .before .before .before .before .before .before .before .before .before .before .before .before .before .before .before .before .before .before .before .before .before .before .before .before .before .before .before in
-    let r = c .before .before .before .before .before .before .before .before .before .before .before .before .before .before .before .before .before .rounds in
+returns c = let c10 = c .before .before .before .before .before .before .before .before .before .before in
+    let c20 = c10 .before .before .before .before .before .before .before .before .before .before in
+    let s = c20 .before .before .before .before .before .before .before in
+    let r = c10 .before .before .before .before .before .before .before .rounds in
     λ x. record {
       ranks = r .ensures .0 x;
       replies =
