@@ -195,8 +195,8 @@ module _ (g : Game) (states k : ℕ) (ranks : List ℕ) (fair : Fair g states) (
 pub attacks-end : (g : Game) (ranks attacks : List ℕ) → g .states ≤ 2 ^ base .latches → ranks ≡ rankTable g → AttacksAre g ranks attacks
     → attacks ≡ attackTable g
 unfolding attackTable
-attacks-end g ranks attacks few e are = ext-getD 0 attacks (table (λ s. cond (ltb s (g .states)) (attack g s) 0) (2 ^ base .latches)) (are .long
-    ∙ sym (length-table _ (2 ^ base .latches))) (λ s h. at s ∙ sym (getD-table _ (2 ^ base .latches) s 0 (omega (arith, are .long))))
+attacks-end g ranks attacks few e are = ext-getD 0 attacks (table (λ s. cond (ltb s (g .states)) (attack g s) 0) (2 ^ base .latches))
+    (are .long ∙ sym (length-table _ (2 ^ base .latches))) (λ s h. at s ∙ sym (getD-table _ (2 ^ base .latches) s 0 (omega (arith, are .long))))
   where
     rank-is : (s : ℕ) → s < g .states → ranksIn ranks s ≡ rank g s
     rank-is s h = ap (λ (l : List ℕ). ranksIn l s) e ∙ rank-in-table g few s h

@@ -42,8 +42,8 @@ held-same net word other few e held = record { says = says }
           number-same word other (netLatches net) j (λ k l. e k (omega arith)),
         ) (held .says (omega (arith, e 11 (omega arith))) j h set)
 
-module _ (net : List ℕ) (order : InOrder net) (before words : List ℕ) (block mark : ℕ) (done : (j : ℕ) → j < width
-    → litsIn words j ≡ evaluated net (moveIn block j) (litsIn before j)) (marked : mark ≡ block + 1) where
+module _ (net : List ℕ) (order : InOrder net) (before words : List ℕ) (block mark : ℕ)
+    (done : (j : ℕ) → j < width → litsIn words j ≡ evaluated net (moveIn block j) (litsIn before j)) (marked : mark ≡ block + 1) where
   abbrev word : ℕ → ℕ
   word = planeWord net words mark
 
@@ -90,8 +90,8 @@ module _ (net : List ℕ) (order : InOrder net) (before words : List ℕ) (block
     where
       at : (o : ℕ) → o * slot + slot ≤ length (putSlot (i * slot) word planes) → HeldAt net (slotAt (putSlot (i * slot) word planes) o)
       at o l = elim (ℕ-discrete o i) [
-        | yes e ↦ held-same net word _ (order .states) (λ j h. ap (λ (n : ℕ). slotAt (putSlot (i * slot) word planes) n j) e
-            ∙ slots-put planes i word j within h) word-held
+        | yes e ↦ held-same net word _ (order .states)
+            (λ j h. ap (λ (n : ℕ). slotAt (putSlot (i * slot) word planes) n j) e ∙ slots-put planes i word j within h) word-held
         | no d ↦ held-same net (slotAt planes o) _ (order .states) (λ j h. slots-other planes i o word j d h) (all .at o (omega (
           arith,
           slots-length planes (i * slot) word,

@@ -40,15 +40,15 @@ fails-again net these those p j fewer e = by (netError net (p * 2 ^ netControls 
     by false f = fewer t f
 
 -- a search over the moves of a place, where those before its start fail
-module _ (test : ℕ → Bool) (first n start m : ℕ) (failed : (j : ℕ) → j < start
-    → test (first + j) ≡ false) (found : m ≡ leastFrom test (first + start) (first + n)) where
+module _ (test : ℕ → Bool) (first n start m : ℕ)
+    (failed : (j : ℕ) → j < start → test (first + j) ≡ false) (found : m ≡ leastFrom test (first + start) (first + n)) where
   passed : (j : ℕ) → first + j < m → test (first + j) ≡ false
   passed j h = elim (decLt j start) [ yes l ↦ failed j l | no l ↦ from-before test (first + start) (first + n) (first + j) (omega arith) (omega arith) ]
 
   pub search-found : m < first + n → m - first ≡ least (λ j. test (first + j)) n
   search-found h =
-      sym (least-is (λ j. test (first + j)) n (m - first) (omega (arith, later)) (ap test back ∙ ap test found
-      ∙ from-holds test (first + start) (first + n) (omega arith)) (λ j l. passed j (omega arith)))
+      sym (least-is (λ j. test (first + j)) n (m - first) (omega (arith, later))
+      (ap test back ∙ ap test found ∙ from-holds test (first + start) (first + n) (omega arith)) (λ j l. passed j (omega arith)))
     where
       later : first + start ≤ m
       later = omega (arith, found, from-start test (first + start) (first + n) (omega arith))
@@ -84,8 +84,8 @@ module _ (net : List ℕ) (ranks : ℕ → ℕ) (k p found lead : ℕ) (kept : K
 
     pub still-least : found - 1 ≡ least p-keeps (2 ^ netControls net)
     still-least =
-        sym (least-is p-keeps (2 ^ netControls net) (found - 1) (omega (arith, still-some, kept .few)) (kept .leads still-some (notRanked ranks k)
-        ∙ both-hold (ltb 0 found) (notRanked ranks k lead) still .1) (λ j h. kept .failed j (omega arith)))
+        sym (least-is p-keeps (2 ^ netControls net) (found - 1) (omega (arith, still-some, kept .few))
+        (kept .leads still-some (notRanked ranks k) ∙ both-hold (ltb 0 found) (notRanked ranks k lead) still .1) (λ j h. kept .failed j (omega arith)))
 
   -- or it failed too
   pub none-behind : (ltb 0 found && notRanked ranks k lead) ≡ false → (j : ℕ) → j < found → p-keeps j ≡ false

@@ -39,8 +39,8 @@ module _ (net : List ℕ) (set : ℕ → Bool) (s r : ℕ) (state : s < 2 ^ netL
 pub defeats-place : (net : List ℕ) (ranks : ℕ → ℕ) (k s r m n u : ℕ) → s < 2 ^ netLatches net → r < u → u ≡ 2 ^ netReadings net → n ≡ 2 ^ netControls net
     → m ≡ least (placeKeeps net (notRanked ranks k) (s * u + r)) (2 ^ netControls net) → leb n m ≡ defeats (netGame net) ranks k s r
 unfolding defeats answered any netGame
-defeats-place net ranks k s r m n u h l wide count e = by (e
-    ∙ ap (λ (x : ℕ). least (placeKeeps net (notRanked ranks k) (s * x + r)) (2 ^ netControls net)) wide
+defeats-place net ranks k s r m n u h l wide count e = by
+    (e ∙ ap (λ (x : ℕ). least (placeKeeps net (notRanked ranks k) (s * x + r)) (2 ^ netControls net)) wide
     ∙ least-move net (notRanked ranks k) s r h (omega arith))
   where
     q : ℕ

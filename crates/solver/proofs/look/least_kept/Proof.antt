@@ -39,8 +39,8 @@ cast-result c = let s = c .before .before .before .before .before .before .befor
 sub-result : tie.Need-sub-result
 sub-result c = let s = c .before .before .before .before .before .before .before .before in
     let a = s .args in
-    still-some (a .net .now) (ranksIn (a .ranks .now)) (a .bound) (a .place) _ _ (s .pre .1 .at (a .place) (s .pre .0)) (sym (c .before .still-keeps .ensures)
-    ∙ c .if1 .taken)
+    still-some (a .net .now) (ranksIn (a .ranks .now)) (a .bound) (a .place) _ _ (s .pre .1 .at (a .place) (s .pre .0))
+    (sym (c .before .still-keeps .ensures) ∙ c .if1 .taken)
 
 returns : tie.Need-returns
 returns c = let s = c .before .before .before .before .before .before .before .before in

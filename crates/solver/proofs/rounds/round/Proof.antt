@@ -20,9 +20,9 @@ use Rattle.solver.proofs.rounds.round.Tie as tie
 
 abbrev Inv-loop : tie.InvT-loop
 Inv-loop net words₀ kept₀ planes₀ k attacks₀ ranks n after₀ s₀ words kept planes attacks after s =
-    (Filled (roundOf (netGame net) k (ranksIn ranks)) ranks s after × (s ≤ n) × (length ranks ≡ 2 ^ base .latches)) × Filled
-    (λ j. attackAfter (netGame net) k ranks (getD attacks₀ j 0) j) attacks₀ s attacks × Kept net (ranksIn ranks) k kept planes × (length kept ≡ length kept₀) ×
-    (length planes ≡ length planes₀) × (n ≡ 2 ^ netLatches net) × (n ≤ 2 ^ base .latches)
+    (Filled (roundOf (netGame net) k (ranksIn ranks)) ranks s after × (s ≤ n) × (length ranks ≡ 2 ^ base .latches))
+    × Filled (λ j. attackAfter (netGame net) k ranks (getD attacks₀ j 0) j) attacks₀ s attacks
+    × Kept net (ranksIn ranks) k kept planes × (length kept ≡ length kept₀) × (length planes ≡ length planes₀) × (n ≡ 2 ^ netLatches net) × (n ≤ 2 ^ base .latches)
 
 abbrev μ-loop : tie.MeasureT-loop
 μ-loop net words₀ kept₀ planes₀ k attacks₀ ranks n after₀ s₀ words kept planes attacks after s = n - s
@@ -94,8 +94,8 @@ loop-again c = let c10 = c .before .before .before .before .before .before .befo
         omega (arith, w),
         l .inv .0 .2,
       ),
-      filled-next _ _ (l .s) (r .result .attack) (l .attacks) (l .inv .1) (omega (arith, w, s .pre .1 .0, l .inv .6)) (r .ensures .1
-          ∙ ap (λ (b : ℕ). attackAfter (netGame (a .net .now)) (a .k) (a .t5) b (l .s)) (l .inv .1 .rest (l .s) (omega arith))),
+      filled-next _ _ (l .s) (r .result .attack) (l .attacks) (l .inv .1) (omega (arith, w, s .pre .1 .0, l .inv .6))
+          (r .ensures .1 ∙ ap (λ (b : ℕ). attackAfter (netGame (a .net .now)) (a .k) (a .t5) b (l .s)) (l .inv .1 .rest (l .s) (omega arith))),
       r .ensures .2,
       search needs,
       search needs,

@@ -120,8 +120,8 @@ returns c = let c10 = c .before .before .before .before .before .before .before 
     let new = attacks-next _ _ (l .k) (l .ranks) f (l .inv .0) more _ (r .result) _ (l .inv .1) (r .ensures .0) (r .ensures .1) in
     let h = c .before .changes in
     let next = rounds-next _ _ (l .k) (l .ranks) (r .result) f (l .inv .0) more (r .ensures .0) in
-    let last = rounds-stop _ _ (l .k) (l .ranks) (r .result) f (l .inv .0) (h .result) (r .ensures .0) (h .ensures
-    ∙ ap (any (λ t. not (eqb (ranksIn (l .ranks) t) (ranksIn (r .result) t)))) (l .inv .5)) (not-true _ (c .if1 .taken)) in
+    let last = rounds-stop _ _ (l .k) (l .ranks) (r .result) f (l .inv .0) (h .result) (r .ensures .0)
+    (h .ensures ∙ ap (any (λ t. not (eqb (ranksIn (l .ranks) t) (ranksIn (r .result) t)))) (l .inv .5)) (not-true _ (c .if1 .taken)) in
     let low : l .k + 1 ≤ 2 ^ base .latches = omega (arith, more, few s) in (
       last,
       attacks-end _ (r .result) _ (f .few) last new,
