@@ -1,2 +1,3 @@
 pub mod InLane
 pub mod LaneSearch
+pub mod KeptControls

@@ -1,1 +1,2 @@
 pub mod InLane
+pub mod KeptControls

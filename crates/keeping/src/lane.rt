@@ -2,6 +2,7 @@
 use crate::rank_list::is_unranked;
 use blocks::is_lane;
 use circuit::Circuit;
+ghost use Prim.Native.Nat.{_<_};
 ghost use mathlib.Core.Path.{_≡_};
 ghost use Rattle.below.specs.LeastFrom.{leastFrom};
 ghost use Rattle.bits.specs.Bit.{oneIf};
@@ -9,7 +10,13 @@ ghost use Rattle.game.specs.Rank.{notRanked};
 ghost use Rattle.keeping.specs.RankList.{ranksIn};
 ghost use Rattle.keeping.specs.contracts.InLane.{laneNumber, keepsIn};
 
-// The least lane from one on, below an end, that keeps; or the end.
+// A lane, and the state that it leads to.
+pub struct Found {
+    pub lane: usize,
+    pub lead: u16,
+}
+
+// The least lane from one on, below an end, that keeps, and where it leads; or the end.
 pub fn keeping_lane<'a>(
     error: u64,
     next: &'a [u64],
@@ -17,28 +24,21 @@ pub fn keeping_lane<'a>(
     bound: u16,
     from: usize,
     end: usize,
-) -> usize
-    ensures { λ r. ⌜ r ≡ leastFrom (keepsIn (notRanked (ranksIn (now (ranks .entry))) bound) error (now (next .entry))) from end ⌝ }
+) -> Found
+    ensures { λ r. ⌜ r .lane ≡ leastFrom (keepsIn (notRanked (ranksIn (now (ranks .entry))) bound) error (now (next .entry))) from end ⌝ }
+    ensures { λ r. ⌜ (r .lane < end → r .lead ≡ laneNumber (now (next .entry)) (r .lane)) ⌝ }
 {
     let mut j = from;
     while j < end {
-        if keeps_in(error, next, ranks, bound, j) {
-            return j;
+        if !is_lane(error, j) {
+            let lead = lane_number(next, j);
+            if is_unranked(ranks, bound, lead as usize) {
+                return Found { lane: j, lead };
+            }
         }
         j += 1;
     }
-    end
-}
-
-// Whether a lane keeps.
-pub fn keeps_in<'a>(error: u64, next: &'a [u64], ranks: &'a [u16], bound: u16, j: usize) -> bool
-    ensures { λ r. ⌜ r ≡ keepsIn (notRanked (ranksIn (now (ranks .entry))) bound) error (now (next .entry)) j ⌝ }
-{
-    if is_lane(error, j) {
-        false
-    } else {
-        is_unranked(ranks, bound, lane_number(next, j) as usize)
-    }
+    Found { lane: end, lead: 0 }
 }
 
 // The number that a lane of some words holds, word k its bit k; of no more bits than a circuit may have latches.

@@ -4,6 +4,7 @@ ghost use mathlib.Core.Path.{_≡_};
 ghost use lib.Dec.{ltb};
 ghost use Rattle.game.specs.Rank.{notRanked};
 ghost use Rattle.keeping.specs.RankList.{ranksIn};
+ghost use Rattle.keeping.specs.contracts.KeptControls.{firstFailed};
 
 pub fn rank_at(ranks: &[u16], state: usize) -> u16
     ensures { λ r. ⌜ r ≡ ranksIn (now (ranks .entry)) state ⌝ }
@@ -20,6 +21,21 @@ pub fn is_unranked(ranks: &[u16], bound: u16, state: usize) -> bool
         return true;
     }
     bound < x
+}
+
+// The first place from one on whose kept control doesn't keep any more; or as many as are kept.
+pub fn first_failed<'a>(kept: &'a [u16], ranks: &'a [u16], bound: u16, from: usize) -> usize
+    ensures { λ r. ⌜ r ≡ firstFailed (now (kept .entry)) (notRanked (ranksIn (now (ranks .entry))) bound) from ⌝ }
+{
+    let n = kept.len() / 2;
+    let mut p = from;
+    while p < n {
+        if !still_keeps(kept[2 * p], kept[2 * p + 1], ranks, bound) {
+            return p;
+        }
+        p += 1;
+    }
+    n
 }
 
 // Whether a control was found, and leads to a state that isn't of rank 1 to a bound.

@@ -8,5 +8,6 @@ pub mod Held
 pub mod Search
 pub mod Moves
 pub mod Kept
+pub mod Defeat
 pub mod NetGame
 pub mod Solved

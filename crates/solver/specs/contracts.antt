@@ -4,3 +4,5 @@ pub mod Moves
 pub mod Planes
 pub mod Kept
 pub mod AttacksAfter
+pub mod Answers
+pub mod CountsAre

@@ -4,13 +4,13 @@ use circuit::Circuit;
 use circuit::counts::controllable_count;
 use circuit::counts::too_many;
 use circuit::counts::uncontrollable_count;
-ghost use Prim.Native.Nat.{ℕ, _≤_};
-ghost use mathlib.Core.List.{List};
+ghost use Prim.Native.Nat.{_≤_};
 ghost use mathlib.Core.Path.{_≡_};
 ghost use lib.ListN.{take};
 ghost use Rattle.circuit.specs.Limits.{base};
-ghost use Rattle.circuit.specs.Stored.{lent, meant, solvable};
+ghost use Rattle.circuit.specs.Stored.{meant, solvable};
 ghost use Rattle.solver.specs.Counts.{countsOf};
+ghost use Rattle.solver.specs.contracts.CountsAre.{CountsAre};
 
 // L, U and C.
 pub struct Counts {
@@ -34,7 +34,7 @@ fn counted_lent<'a>(
     latches: usize,
     latch: &'a [u16],
 ) -> Counts
-    ensures { λ r. ⌜ ((largest : ℕ) (next : List ℕ) (output : ℕ) (gate left right : List ℕ) → r ≡ countsOf (solvable (lent largest (take inputs (now (input .entry))) (now (controllable .entry)) (take latches (now (latch .entry))) next output gate left right))) ⌝ }
+    ensures { λ r. ⌜ CountsAre r (take inputs (now (input .entry))) (now (controllable .entry)) (take latches (now (latch .entry))) ⌝ }
     ensures { λ r. ⌜ r .latches ≤ base .latches ⌝ }
     ensures { λ r. ⌜ r .uncontrollable ≤ base .uncontrollable ⌝ }
 {

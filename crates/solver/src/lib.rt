@@ -7,16 +7,11 @@ mod rooms;
 mod rounds;
 
 use circuit::Circuit;
-use circuit::counts::too_many;
-use planes::number_at;
 use rooms::solve_net;
 ghost use mathlib.Core.Path.{_≡_};
 ghost use Rattle.circuit.specs.Stored.{meant, solvable};
 ghost use Rattle.game.specs.CircuitGame.{circuitGame};
-ghost use Rattle.net.specs.InOrder.{InOrder};
 ghost use Rattle.solver.specs.Solution.{solutionOf};
-ghost use Rattle.game.specs.NetGame.{netGame};
-ghost use Rattle.solver.specs.contracts.SolvableNet.{solvableNet};
 
 // What the solver answers: ranks and attacks of the states, and replies, at index s × 2^U + reading; 0 behind the last.
 pub struct Solution {
@@ -32,16 +27,5 @@ pub fn solve(c: Circuit) -> Solution
     let made = net::make(c);
     let length = made.length;
     let numbers = made.numbers;
-    solve_ordered(&numbers[..length])
-}
-
-// The solution of a net, or of the empty one where it has too many inputs of a sort.
-fn solve_ordered(net: &[u16]) -> Solution
-    requires { ⌜ InOrder (now net) ⌝ }
-    ensures { λ r. ⌜ r ≡ solutionOf (netGame (solvableNet (now (net .entry)))) ⌝ }
-{
-    if too_many(number_at(net, 1) as usize, number_at(net, 0) as usize) {
-        return solve_net(&[0u16; 4]);
-    }
-    solve_net(net)
+    solve_net(&numbers[..length])
 }

@@ -6,21 +6,18 @@ use crate::planes::number_at;
 use blocks::LITERALS;
 use circuit::counts::numbers;
 use keeping::lane::keeping_lane;
-use keeping::lane::lane_number;
+use keeping::rank_list::first_failed;
 use keeping::rank_list::still_keeps;
-ghost use Prim.Native.Nat.{ℕ, _+_, _*_, _^_, _<_, _≤_};
-ghost use mathlib.Core.Bool.{Bool};
+ghost use Prim.Native.Nat.{_+_, _*_, _^_, _<_, _≤_};
 ghost use mathlib.Core.Path.{_≡_};
-ghost use lib.ListN.{length};
 ghost use Rattle.below.specs.Least.{least};
-ghost use Rattle.below.specs.LeastFrom.{leastFrom};
-ghost use Rattle.game.specs.Rank.{notRanked, defeats};
+ghost use Rattle.game.specs.Rank.{defeats};
 ghost use Rattle.keeping.specs.RankList.{ranksIn};
 ghost use Rattle.net.specs.Net.{netControls, netReadings, netLatches};
 ghost use Rattle.solver.specs.contracts.Kept.{Kept, Behind};
-ghost use Rattle.solver.specs.contracts.Moves.{Small, moveKeeps, placeKeeps, places};
-ghost use Rattle.game.specs.NetGame.{netGame};
+ghost use Rattle.solver.specs.contracts.Moves.{Small, places};
 ghost use Rattle.solver.specs.contracts.Planes.{AllHeld};
+ghost use Rattle.solver.specs.contracts.Answers.{MoveFrom, ControlAt, DefeatOf};
 
 // A move, and the state that it leads to.
 pub(crate) struct Found {
@@ -40,18 +37,19 @@ pub(crate) fn least_defeat<'a>(
 ) -> usize
     requires { ⌜ state < 2 ^ netLatches (now net) ⌝ }
     requires { ⌜ Kept (now net) (ranksIn (now ranks)) bound (now kept) (now planes) ⌝ }
-    ensures { λ r. ⌜ (r ≡ least (defeats (netGame (now (net .entry))) (ranksIn (now (ranks .entry))) bound state) (2 ^ netReadings (now (net .entry)))) × Kept (now (net .entry)) (ranksIn (now (ranks .entry))) bound (now (kept .exit)) (now (planes .exit)) ⌝ }
+    ensures { λ r. ⌜ DefeatOf (now (net .entry)) (now (ranks .entry)) bound state r (now (kept .exit)) (now (planes .exit)) ⌝ }
 {
     let n = readings(net);
     let controls = controls(net);
     let first = state as usize * n;
-    let mut r = 0;
-    while r < n {
-        let control = least_kept(net, words, kept, planes, ranks, bound, first + r);
+    let end = first + n;
+    let mut place = first_failed(&kept[..2 * end], ranks, bound, first);
+    while place < end {
+        let control = look_on(net, words, kept, planes, ranks, bound, place);
         if controls <= control {
-            return r;
+            return place - first;
         }
-        r += 1;
+        place = first_failed(&kept[..2 * end], ranks, bound, place + 1);
     }
     n
 }
@@ -68,7 +66,7 @@ pub(crate) fn least_kept<'a>(
 ) -> usize
     requires { ⌜ place < places (now net) ⌝ }
     requires { ⌜ Kept (now net) (ranksIn (now ranks)) bound (now kept) (now planes) ⌝ }
-    ensures { λ r. ⌜ (r ≡ least (placeKeeps (now (net .entry)) (notRanked (ranksIn (now (ranks .entry))) bound) place) (2 ^ netControls (now (net .entry)))) × Kept (now (net .entry)) (ranksIn (now (ranks .entry))) bound (now (kept .exit)) (now (planes .exit)) ⌝ }
+    ensures { λ r. ⌜ ControlAt (now (net .entry)) (now (ranks .entry)) bound place r (now (kept .exit)) (now (planes .exit)) ⌝ }
 {
     let found = kept[2 * place];
     let lead = kept[2 * place + 1];
@@ -91,7 +89,7 @@ fn look_on<'a>(
     requires { ⌜ place < places (now net) ⌝ }
     requires { ⌜ Kept (now net) (ranksIn (now ranks)) bound (now kept) (now planes) ⌝ }
     requires { ⌜ Behind (now net) (ranksIn (now ranks)) bound place (now kept) ⌝ }
-    ensures { λ r. ⌜ (r ≡ least (placeKeeps (now (net .entry)) (notRanked (ranksIn (now (ranks .entry))) bound) place) (2 ^ netControls (now (net .entry)))) × Kept (now (net .entry)) (ranksIn (now (ranks .entry))) bound (now (kept .exit)) (now (planes .exit)) ⌝ }
+    ensures { λ r. ⌜ ControlAt (now (net .entry)) (now (ranks .entry)) bound place r (now (kept .exit)) (now (planes .exit)) ⌝ }
 {
     let n = controls(net);
     let first = place * n;
@@ -120,7 +118,7 @@ fn keeping_from<'a>(
     requires { ⌜ AllHeld (now net) (now planes) ⌝ }
     requires { ⌜ from ≤ end ⌝ }
     requires { ⌜ end ≤ 8388608 ⌝ }
-    ensures { λ r. ⌜ (r .number ≡ leastFrom (moveKeeps (now (net .entry)) (notRanked (ranksIn (now (ranks .entry))) bound)) from end) × (r .number < end → (set : ℕ → Bool) → moveKeeps (now (net .entry)) set (r .number) ≡ set (r .lead)) × AllHeld (now (net .entry)) (now (planes .exit)) ⌝ }
+    ensures { λ r. ⌜ MoveFrom (now (net .entry)) (now (ranks .entry)) bound from end (r .number) (r .lead) (now (planes .exit)) ⌝ }
 {
     let latches = latches(net);
     let mut m = from;
@@ -128,7 +126,7 @@ fn keeping_from<'a>(
         let block = m / 64;
         let at = hold(net, words, planes, block);
         let last = below::fewer(64, end - block * 64);
-        let j = keeping_lane(
+        let found = keeping_lane(
             planes[at + ERROR],
             &planes[at..at + latches],
             ranks,
@@ -136,10 +134,12 @@ fn keeping_from<'a>(
             m % 64,
             last,
         );
-        m = block * 64 + j;
-        if j < last {
-            let lead = lane_number(&planes[at..at + latches], j);
-            return Found { number: m, lead };
+        m = block * 64 + found.lane;
+        if found.lane < last {
+            return Found {
+                number: m,
+                lead: found.lead,
+            };
         }
     }
     Found {

@@ -44,11 +44,20 @@ fn slot_of(net: &[u16], block: usize, n: usize) -> usize
     requires { ⌜ 0 < n ⌝ }
     ensures { λ r. ⌜ r < n ⌝ }
 {
+    let i = place_of(net, block);
+    if i < n {
+        return i;
+    }
+    i % n
+}
+
+// The place of a block, where a place has several; else the block itself.
+fn place_of(net: &[u16], block: usize) -> usize {
     let c = number_at(net, 0) as usize;
     if c < 6 {
-        return block % n;
+        return block;
     }
-    block / circuit::counts::numbers(c - 6) % n
+    block / circuit::counts::numbers(c - 6)
 }
 
 // Puts the planes of a block that was evaluated.

@@ -6,18 +6,15 @@ use crate::look::states;
 use blocks::LITERALS;
 use circuit::Circuit;
 use keeping::rank_list::rank_at;
-ghost use Prim.Native.Nat.{ℕ, _*_, _/_, _%_, _^_, _<_, _≤_};
-ghost use mathlib.Core.Bool.{cond};
+ghost use Prim.Native.Nat.{ℕ, _*_, _/_, _^_, _<_, _≤_};
 ghost use mathlib.Core.Path.{_≡_};
-ghost use lib.Dec.{ltb};
 ghost use Rattle.below.specs.Table.{table};
 ghost use Rattle.circuit.specs.Limits.{base};
 ghost use Rattle.keeping.specs.RankList.{ranksIn};
-ghost use Rattle.net.specs.Net.{netReadings};
 ghost use Rattle.solver.specs.contracts.Kept.{Kept};
 ghost use Rattle.solver.specs.contracts.Moves.{places};
-ghost use Rattle.game.specs.NetGame.{netGame};
-ghost use Rattle.solver.specs.Over.{found as foundOf, replyOver};
+ghost use Rattle.solver.specs.Over.{found as foundOf};
+ghost use Rattle.solver.specs.contracts.Answers.{Replied, repliesOver};
 
 // Puts the replies of the states of rank 0, where no rank is above k; the others stay 0.
 pub(crate) fn put_replies<'a>(
@@ -32,7 +29,7 @@ pub(crate) fn put_replies<'a>(
     requires { ⌜ ((t : ℕ) → ranksIn (now ranks) t ≤ k) ⌝ }
     requires { ⌜ now replies ≡ table (λ i. 0) (2 ^ base .latches * 2 ^ base .uncontrollable) ⌝ }
     requires { ⌜ Kept (now net) (ranksIn (now ranks)) k (now kept) (now planes) ⌝ }
-    ensures { λ _. ⌜ now (replies .exit) ≡ table (λ i. cond (ltb i (places (now (net .entry)))) (replyOver (netGame (now (net .entry))) (now (ranks .entry)) (i / 2 ^ netReadings (now (net .entry))) (i % 2 ^ netReadings (now (net .entry)))) 0) (2 ^ base .latches * 2 ^ base .uncontrollable) ⌝ }
+    ensures { λ _. ⌜ now (replies .exit) ≡ repliesOver (now (net .entry)) (now (ranks .entry)) ⌝ }
 {
     let n = states(net) * readings(net);
     let mut i = 0;
@@ -62,7 +59,7 @@ fn reply_at<'a>(
     requires { ⌜ ((t : ℕ) → ranksIn (now ranks) t ≤ k) ⌝ }
     requires { ⌜ place < places (now net) ⌝ }
     requires { ⌜ Kept (now net) (ranksIn (now ranks)) k (now kept) (now planes) ⌝ }
-    ensures { λ r. ⌜ (r ≡ replyOver (netGame (now (net .entry))) (now (ranks .entry)) (place / 2 ^ netReadings (now (net .entry))) (place % 2 ^ netReadings (now (net .entry)))) × Kept (now (net .entry)) (ranksIn (now (ranks .entry))) k (now (kept .exit)) (now (planes .exit)) ⌝ }
+    ensures { λ r. ⌜ Replied (now (net .entry)) (now (ranks .entry)) k place r (now (kept .exit)) (now (planes .exit)) ⌝ }
 {
     let x = rank_at(ranks, place / readings(net));
     if 0 < x {

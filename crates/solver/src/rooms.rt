@@ -4,16 +4,20 @@ use crate::look::controls;
 use crate::look::readings;
 use crate::look::states;
 use crate::planes::SLOT;
+use crate::planes::number_at;
 use crate::rounds::solve_in;
 use circuit::Circuit;
+use circuit::counts::too_many;
 ghost use Prim.Native.Nat.{_*_, _^_, _≤_};
 ghost use mathlib.Core.Path.{_≡_};
 ghost use Rattle.below.specs.Table.{table};
 ghost use Rattle.circuit.specs.Limits.{base};
+ghost use Rattle.game.specs.NetGame.{netGame};
+ghost use Rattle.net.specs.InOrder.{InOrder};
 ghost use Rattle.solver.specs.Solution.{solutionOf};
 ghost use Rattle.solver.specs.contracts.Moves.{Small, places};
-ghost use Rattle.game.specs.NetGame.{netGame};
 ghost use Rattle.solver.specs.contracts.Planes.{slot};
+ghost use Rattle.solver.specs.contracts.SolvableNet.{solvableNet};
 
 // Places and slots of a small game, and slots of a middling one; a large one has a slot for each place.
 const FEW_PLACES: usize = 2048;
@@ -22,11 +26,15 @@ const FEW: usize = 512;
 
 const SOME: usize = 4096;
 
-// The solution of a net.
+// The solution of a net, or of the empty one where it has too many inputs of a sort. It calls itself, so the compiler leaves each room in a
+// frame of its own: the pages of a frame are touched when it is entered.
 pub(crate) fn solve_net(net: &[u16]) -> Solution
-    requires { ⌜ Small (now net) ⌝ }
-    ensures { λ r. ⌜ r ≡ solutionOf (netGame (now (net .entry))) ⌝ }
+    requires { ⌜ InOrder (now net) ⌝ }
+    ensures { λ r. ⌜ r ≡ solutionOf (netGame (solvableNet (now (net .entry)))) ⌝ }
 {
+    if too_many(number_at(net, 1) as usize, number_at(net, 0) as usize) {
+        return solve_net(&[0u16; 4]);
+    }
     let n = states(net) * readings(net);
     let slots = n * below::fewer(controls(net), 64) / 64;
     if SOME < slots {

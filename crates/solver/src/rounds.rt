@@ -8,7 +8,7 @@ use crate::replies::put_replies;
 use blocks::LITERALS;
 use circuit::Circuit;
 use keeping::rank_list::rank_at;
-ghost use Prim.Native.Nat.{ℕ, _^_, _<_, _≤_};
+ghost use Prim.Native.Nat.{_^_, _<_, _≤_};
 ghost use mathlib.Core.Bool.{not};
 ghost use mathlib.Core.Path.{_≡_};
 ghost use lib.Dec.{eqb};
@@ -16,14 +16,12 @@ ghost use lib.ListN.{length};
 ghost use Rattle.below.specs.Least.{any};
 ghost use Rattle.below.specs.Table.{table};
 ghost use Rattle.circuit.specs.Limits.{base};
-ghost use Rattle.game.specs.Rank.{round as roundOf};
 ghost use Rattle.keeping.specs.RankList.{ranksIn};
 ghost use Rattle.net.specs.Net.{netLatches};
-ghost use Rattle.solver.specs.contracts.AttacksAfter.{attackAfter, attacksAfter};
 ghost use Rattle.solver.specs.contracts.Kept.{Kept};
 ghost use Rattle.game.specs.NetGame.{netGame};
-ghost use Rattle.solver.specs.RankTable.{rankTable, roundTable};
-ghost use Rattle.solver.specs.Solution.{attackTable, solutionOf};
+ghost use Rattle.solver.specs.Solution.{solutionOf};
+ghost use Rattle.solver.specs.contracts.Answers.{RankedIn, RoundOver, AllRounds};
 
 // The solution, where nothing was looked at before.
 pub(crate) fn solve_in(net: &[u16], kept: &mut [u16], planes: &mut [u64]) -> Solution
@@ -60,7 +58,7 @@ fn rounds(
 ) -> [u16; Circuit::STATES]
     requires { ⌜ now attacks ≡ table (λ s. 0) (2 ^ base .latches) ⌝ }
     requires { ⌜ Kept (now net) (ranksIn (table (λ s. 0) (2 ^ base .latches))) 0 (now kept) (now planes) ⌝ }
-    ensures { λ r. ⌜ (r ≡ rankTable (netGame (now (net .entry)))) × (now (attacks .exit) ≡ attackTable (netGame (now (net .entry)))) × ((t : ℕ) → ranksIn r t ≤ 2 ^ base .latches) × Kept (now (net .entry)) (ranksIn r) (2 ^ base .latches) (now (kept .exit)) (now (planes .exit)) ⌝ }
+    ensures { λ r. ⌜ AllRounds (now (net .entry)) r (now (attacks .exit)) (now (kept .exit)) (now (planes .exit)) ⌝ }
 {
     let n = states(net);
     let mut ranks = zeros();
@@ -106,7 +104,7 @@ fn round(
     requires { ⌜ k ≤ 2 ^ base .latches ⌝ }
     requires { ⌜ length (now attacks) ≡ 2 ^ base .latches ⌝ }
     requires { ⌜ Kept (now net) (ranksIn ranks) k (now kept) (now planes) ⌝ }
-    ensures { λ r. ⌜ (r ≡ roundTable (netGame (now (net .entry))) (2 ^ netLatches (now (net .entry))) k ranks) × (now (attacks .exit) ≡ attacksAfter (netGame (now (net .entry))) (2 ^ netLatches (now (net .entry))) k ranks (now (attacks .entry))) × Kept (now (net .entry)) (ranksIn ranks) k (now (kept .exit)) (now (planes .exit)) ⌝ }
+    ensures { λ r. ⌜ RoundOver (now (net .entry)) ranks (now (attacks .entry)) k r (now (attacks .exit)) (now (kept .exit)) (now (planes .exit)) ⌝ }
 {
     let n = states(net);
     let mut after = ranks;
@@ -140,7 +138,7 @@ fn ranked<'a>(
     requires { ⌜ k ≤ 2 ^ base .latches ⌝ }
     requires { ⌜ state < 2 ^ netLatches (now net) ⌝ }
     requires { ⌜ Kept (now net) (ranksIn (now ranks)) k (now kept) (now planes) ⌝ }
-    ensures { λ r. ⌜ (r .rank ≡ roundOf (netGame (now (net .entry))) k (ranksIn (now (ranks .entry))) state) × (r .attack ≡ attackAfter (netGame (now (net .entry))) k (now (ranks .entry)) attack state) × Kept (now (net .entry)) (ranksIn (now (ranks .entry))) k (now (kept .exit)) (now (planes .exit)) ⌝ }
+    ensures { λ r. ⌜ RankedIn (now (net .entry)) (now (ranks .entry)) k state attack (r .rank) (r .attack) (now (kept .exit)) (now (planes .exit)) ⌝ }
 {
     let x = rank_at(ranks, state as usize);
     if 0 < x {

@@ -31,7 +31,8 @@ unfolding laneBit
 lane-bit-small words j k = one-if-bit _
 
 pub number-fits : (words : List ℕ) (j k number : ℕ) → FromTop (laneBit words j) (min (length words) (base .latches)) k number → number < 2 ^ base .latches
-number-fits words j k number b = omega (arith, top-fits (laneBit words j) (min (length words) (base .latches)) (lane-bit-small words j) k number b, pow-le-pow-right {n = 2} two few)
+number-fits words j k number b =
+    omega (arith, top-fits (laneBit words j) (min (length words) (base .latches)) (lane-bit-small words j) k number b, pow-le-pow-right {n = 2} two few)
   where
     two : 1 ≤ 2
     two = omega arith

@@ -14,7 +14,10 @@ use Rattle.circuit.proofs.laws.Solvable.{many-solved-empty, few-solved, lent-la
 use Rattle.solver.specs.Counts.{countsOf}
 use Rattle.solver.specs.declared.counts.Counts.{Counts}
 
-module _ (inputs latches i u k : ℕ) (input controllable latch : List ℕ) (some : i ≡ min inputs (length input)) (others : u ≡ inputsThat (λ (j : Input). not (j .controllable)) (inputsOf (take i input) controllable)) (chosen : k ≡ inputsThat (λ (j : Input). j .controllable) (inputsOf (take i input) controllable)) (largest : ℕ) (next : List ℕ) (output : ℕ) (gate left right : List ℕ) where
+module _ (inputs latches i u k : ℕ) (input controllable latch : List ℕ) (some : i ≡ min inputs (length input))
+    (others : u ≡ inputsThat (λ (j : Input). not (j .controllable)) (inputsOf (take i input) controllable))
+    (chosen : k ≡ inputsThat (λ (j : Input). j .controllable) (inputsOf (take i input) controllable)) (largest : ℕ) (next : List ℕ) (output : ℕ)
+    (gate left right : List ℕ) where
   abbrev c : Circuit
   c = lent largest (take inputs input) controllable (take latches latch) next output gate left right
 
@@ -29,11 +32,13 @@ module _ (inputs latches i u k : ℕ) (input controllable latch : List ℕ) (som
   unfolding controllableCount lent
   k-is = chosen ∙ ap (λ (l : List ℕ). inputsThat (λ (j : Input). j .controllable) (inputsOf l controllable)) cut
 
-  pub no-counts : (ltb (base .uncontrollable) u || ltb (base .controllable) k) ≡ true → _≡_ {A = Counts} (record { latches = 0; uncontrollable = 0; controllable = 0 }) (countsOf (solvable c))
+  pub no-counts : (ltb (base .uncontrollable) u || ltb (base .controllable) k) ≡ true
+      → _≡_ {A = Counts} (record { latches = 0; uncontrollable = 0; controllable = 0 }) (countsOf (solvable c))
   unfolding countsOf latchCount uncontrollableCount controllableCount inputsThat emptyCircuit
   no-counts e = ap countsOf (many-solved-empty c u k u-is k-is e)
 
-  module _ (l n : ℕ) (few : (ltb (base .uncontrollable) u || ltb (base .controllable) k) ≡ false) (some-latches : l ≡ min latches (length latch)) (most : n ≡ min l (base .latches)) where
+  module _ (l n : ℕ) (few : (ltb (base .uncontrollable) u || ltb (base .controllable) k) ≡ false) (some-latches : l ≡ min latches (length latch))
+      (most : n ≡ min l (base .latches)) where
     n-is : n ≡ latchCount c
     n-is = omega (arith, lent-latches largest (take inputs input) controllable (take latches latch) next output gate left right, length-take latches latch)
 

@@ -23,7 +23,8 @@ use Rattle.solver.specs.contracts.Moves.{Small, moveKeeps, placeKeeps, p
 use Rattle.game.specs.NetGame.{netMove, netGame}
 
 module _ (net : List ℕ) (set : ℕ → Bool) (s r : ℕ) (state : s < 2 ^ netLatches net) (reading : r < 2 ^ netReadings net) where
-  move-is : (k : ℕ) → k < 2 ^ netControls net → moveOf (netLatches net) (netReadings net) (netControls net) s r k ≡ (s * 2 ^ netReadings net + r) * 2 ^ netControls net + k
+  move-is : (k : ℕ) → k < 2 ^ netControls net
+      → moveOf (netLatches net) (netReadings net) (netControls net) s r k ≡ (s * 2 ^ netReadings net + r) * 2 ^ netControls net + k
   unfolding moveOf
   move-is k h = rw (mod-eq-of-lt state, mod-eq-of-lt reading, mod-eq-of-lt h) refl
 
@@ -35,15 +36,21 @@ module _ (net : List ℕ) (set : ℕ → Bool) (s r : ℕ) (state : s < 2 ^ netL
   least-move = least-same _ _ (2 ^ netControls net) keeps-move
 
 -- a reading defeats exactly if no control keeps at its place
-pub defeats-place : (net : List ℕ) (ranks : ℕ → ℕ) (k s r m n u : ℕ) → s < 2 ^ netLatches net → r < u → u ≡ 2 ^ netReadings net → n ≡ 2 ^ netControls net → m ≡ least (placeKeeps net (notRanked ranks k) (s * u + r)) (2 ^ netControls net) → leb n m ≡ defeats (netGame net) ranks k s r
+pub defeats-place : (net : List ℕ) (ranks : ℕ → ℕ) (k s r m n u : ℕ) → s < 2 ^ netLatches net → r < u → u ≡ 2 ^ netReadings net → n ≡ 2 ^ netControls net
+    → m ≡ least (placeKeeps net (notRanked ranks k) (s * u + r)) (2 ^ netControls net) → leb n m ≡ defeats (netGame net) ranks k s r
 unfolding defeats answered any netGame
-defeats-place net ranks k s r m n u h l wide count e = by (e ∙ ap (λ (x : ℕ). least (placeKeeps net (notRanked ranks k) (s * x + r)) (2 ^ netControls net)) wide ∙ least-move net (notRanked ranks k) s r h (omega arith))
+defeats-place net ranks k s r m n u h l wide count e = by
+    (e ∙ ap (λ (x : ℕ). least (placeKeeps net (notRanked ranks k) (s * x + r)) (2 ^ netControls net)) wide
+    ∙ least-move net (notRanked ranks k) s r h (omega arith))
   where
     q : ℕ
     q = least (keeps (netGame net) (notRanked ranks k) s r) (2 ^ netControls net)
 
     by : m ≡ q → leb n m ≡ not (ltb q (2 ^ netControls net))
-    by f = elim (decLt m n) [ yes a ↦ lt-leb n m a ∙ sym (ap not (lt-ltb q (2 ^ netControls net) (omega arith))) | no a ↦ le-leb n m (omega arith) ∙ sym (ap not (le-ltb q (2 ^ netControls net) (omega arith))) ]
+    by f = elim (decLt m n) [
+      | yes a ↦ lt-leb n m a ∙ sym (ap not (lt-ltb q (2 ^ netControls net) (omega arith)))
+      | no a ↦ le-leb n m (omega arith) ∙ sym (ap not (le-ltb q (2 ^ netControls net) (omega arith)))
+    ]
 
 -- the place of a state and a reading, and back
 pub place-within : (net : List ℕ) (s r u : ℕ) → s < 2 ^ netLatches net → r < u → u ≡ 2 ^ netReadings net → s * u + r < places net
@@ -58,8 +65,11 @@ module _ (net : List ℕ) (p : ℕ) (within : p < places net) where
   pub reading-of : p % 2 ^ netReadings net < 2 ^ netReadings net
   reading-of = mod-lt p {m = 2 ^ netReadings net} (pow-pos (netReadings net))
 
-  pub least-place : (set : ℕ → Bool) → least (placeKeeps net set p) (2 ^ netControls net) ≡ least (keeps (netGame net) set (p / 2 ^ netReadings net) (p % 2 ^ netReadings net)) (2 ^ netControls net)
-  least-place set = ap (λ (q : ℕ). least (placeKeeps net set q) (2 ^ netControls net)) (sym (div-add-mod' p (2 ^ netReadings net))) ∙ least-move net set (p / 2 ^ netReadings net) (p % 2 ^ netReadings net) state-of reading-of
+  pub least-place : (set : ℕ → Bool)
+      → least (placeKeeps net set p) (2 ^ netControls net) ≡ least (keeps (netGame net) set (p / 2 ^ netReadings net) (p % 2 ^ netReadings net))
+      (2 ^ netControls net)
+  least-place set = ap (λ (q : ℕ). least (placeKeeps net set q) (2 ^ netControls net)) (sym (div-add-mod' p (2 ^ netReadings net)))
+      ∙ least-move net set (p / 2 ^ netReadings net) (p % 2 ^ netReadings net) state-of reading-of
 
 pub places-are : (net : List ℕ) (a b : ℕ) → a ≡ 2 ^ netLatches net → b ≡ 2 ^ netReadings net → a * b ≡ places net
 unfolding places
@@ -92,15 +102,6 @@ module _ (net : List ℕ) (small : Small net) where
 
   pub moves-fit : (p n : ℕ) → p < places net → n ≡ 2 ^ netControls net → p * n + n ≤ 8388608
   moves-fit p n h e = subst (λ (m : ℕ). p * m + m ≤ 8388608) (sym e) (few-moves p h)
-
-  pub first-fits : (s u : ℕ) → s < 2 ^ netLatches net → u ≡ 2 ^ netReadings net → s * u ≤ 32768
-  first-fits s u h e = omega (arith, mul-le-mul low narrow)
-    where
-      low : s ≤ 2 ^ base .latches
-      low = omega (arith, few-states)
-
-      narrow : u ≤ 2 ^ base .uncontrollable
-      narrow = omega (arith, few-readings)
 
   -- how many there are, by the numbers of the net
   pub controls-are : (n : ℕ) → n ≡ getD net 0 0 → 2 ^ min n (base .latches) ≡ 2 ^ netControls net

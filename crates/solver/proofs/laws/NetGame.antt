@@ -8,7 +8,7 @@ use mathlib.Core.Path.{refl}
 use lib.ListN.{length, take, drop, length-take, length-map}
 use lib.Pow.{pow-pos}
 use Rattle.bits.specs.Bit.{oneIf}
-use Rattle.bits.specs.Digits.{sum, AllBelow}
+use Rattle.bits.specs.Digits.{AllBelow}
 use Rattle.bits.proofs.laws.Digits.{sum-below}
 use Rattle.game.specs.Game.{Proper}
 use Rattle.game.specs.NetGame.{netGame}

@@ -53,9 +53,11 @@ module _ (g : Game) (ranks : List ℕ) (s : ℕ) (x : ℕ) (is : x ≡ ranksIn r
   unfolding replyOver
   no-reply r h = rw (zero-false h)
 
-  pub reply-found : (bound r k n b : ℕ) → ((t : ℕ) → ranksIn ranks t ≤ bound) → x ≤ 0 → k ≡ least (keeps g (notRanked (ranksIn ranks) bound) s r) (g .controls) → n ≡ g .controls → b ≡ found k n → b ≡ replyOver g ranks s r
+  pub reply-found : (bound r k n b : ℕ) → ((t : ℕ) → ranksIn ranks t ≤ bound) → x ≤ 0 → k ≡ least (keeps g (notRanked (ranksIn ranks) bound) s r) (g .controls)
+      → n ≡ g .controls → b ≡ found k n → b ≡ replyOver g ranks s r
   unfolding replyOver
-  reply-found bound r k n b most h e f q = rw (zero-true h) (q ∙ ap₂ found (e ∙ ap (λ (set : ℕ → Bool). least (keeps g set s r) (g .controls)) (unranked-is-zero ranks bound most)) f)
+  reply-found bound r k n b most h e f q =
+      rw (zero-true h) (q ∙ ap₂ found (e ∙ ap (λ (set : ℕ → Bool). least (keeps g set s r) (g .controls)) (unranked-is-zero ranks bound most)) f)
 
 module _ (g : Game) (proper : Proper g) (few : g .states ≤ 2 ^ base .latches) where
   -- the states of rank 0 in the list of ranks are those of the region
@@ -69,11 +71,18 @@ module _ (g : Game) (proper : Proper g) (few : g .states ≤ 2 ^ base .latches) 
     reply-over-is-reply r h = by (inRegion g s) refl
       where
         same : least (keeps g (rankZero (rankTable g)) s r) (g .controls) ≡ least (keeps g (inRegion g) s r) (g .controls)
-        same = least-same (keeps g (rankZero (rankTable g)) s r) (keeps g (inRegion g) s r) (g .controls) (λ k l. keeps-same g (rankZero (rankTable g)) (inRegion g) s r k (zero-in-region _ (proper .leads s r k)))
+        same =
+            least-same (keeps g (rankZero (rankTable g)) s r) (keeps g (inRegion g) s r) (g .controls)
+            (λ k l. keeps-same g (rankZero (rankTable g)) (inRegion g) s r k (zero-in-region _ (proper .leads s r k)))
 
         inside : inRegion g s ≡ true → reply g s r ≡ least (keeps g (inRegion g) s r) (g .controls)
         inside e = rw e
 
-        by : (b : Bool) → inRegion g s ≡ b → cond (rankZero (rankTable g) s) (found (least (keeps g (rankZero (rankTable g)) s r) (g .controls)) (g .controls)) 0 ≡ cond (inRegion g s) (least (keeps g (inRegion g) s r) (g .controls)) 0
-        by true e = rw (zero-in-region s state, e, same) (sym (found-below (least (keeps g (inRegion g) s r) (g .controls)) (g .controls) (omega (arith, inside e, reply-is-control g proper s r state h e))))
+        by : (b : Bool) → inRegion g s ≡ b
+            → cond (rankZero (rankTable g) s) (found (least (keeps g (rankZero (rankTable g)) s r) (g .controls)) (g .controls)) 0 ≡ cond (inRegion g s)
+            (least (keeps g (inRegion g) s r) (g .controls)) 0
+        by true e =
+            rw (zero-in-region s state, e, same)
+            (sym (found-below (least (keeps g (inRegion g) s r) (g .controls)) (g .controls)
+            (omega (arith, inside e, reply-is-control g proper s r state h e))))
         by false e = rw (zero-in-region s state, e)

@@ -28,7 +28,8 @@ pub ranked-same : (ranks other : ℕ → ℕ) (k s : ℕ) → ranks s ≡ other 
 unfolding notRanked
 ranked-same ranks other k s e = ap (λ (m : ℕ). not (leb 1 m && leb m k)) e
 
-pub defeats-same : (g : Game) → Proper g → (ranks other : ℕ → ℕ) (k s r : ℕ) → ((t : ℕ) → t < g .states → notRanked ranks k t ≡ notRanked other k t) → defeats g ranks k s r ≡ defeats g other k s r
+pub defeats-same : (g : Game) → Proper g → (ranks other : ℕ → ℕ) (k s r : ℕ) → ((t : ℕ) → t < g .states → notRanked ranks k t ≡ notRanked other k t)
+    → defeats g ranks k s r ≡ defeats g other k s r
 unfolding defeats
 defeats-same g proper ranks other k s r e = ap not (answered-same g (notRanked ranks k) (notRanked other k) s r (λ c. e _ (proper .leads s r c)))
 
@@ -74,11 +75,16 @@ table-last g = refl
 module _ (g : Game) (few : g .states ≤ 2 ^ base .latches) where
   pub in-table : (n s : ℕ) → s < g .states → ranksIn (tableAfter g n) s ≡ ranksAfter g n s
   unfolding tableAfter ranksIn
-  in-table n s h = getD-table (λ t. cond (ltb t (g .states)) (ranksAfter g n t) 0) (2 ^ base .latches) s 0 (omega arith) ∙ ap (λ (b : Bool). cond b (ranksAfter g n s) 0) (lt-ltb s (g .states) h)
+  in-table n s h = getD-table (λ t. cond (ltb t (g .states)) (ranksAfter g n t) 0) (2 ^ base .latches) s 0 (omega arith)
+      ∙ ap (λ (b : Bool). cond b (ranksAfter g n s) 0) (lt-ltb s (g .states) h)
 
   pub behind-table : (n s : ℕ) → g .states ≤ s → ranksIn (tableAfter g n) s ≡ 0
   unfolding tableAfter ranksIn
-  behind-table n s h = elim (decLt s (2 ^ base .latches)) [ yes l ↦ getD-table (λ t. cond (ltb t (g .states)) (ranksAfter g n t) 0) (2 ^ base .latches) s 0 l ∙ ap (λ (b : Bool). cond b (ranksAfter g n s) 0) (le-ltb s (g .states) h) | no l ↦ getD-table-past (λ t. cond (ltb t (g .states)) (ranksAfter g n t) 0) (2 ^ base .latches) s 0 (omega arith) ]
+  behind-table n s h = elim (decLt s (2 ^ base .latches)) [
+    | yes l ↦ getD-table (λ t. cond (ltb t (g .states)) (ranksAfter g n t) 0) (2 ^ base .latches) s 0 l
+        ∙ ap (λ (b : Bool). cond b (ranksAfter g n s) 0) (le-ltb s (g .states) h)
+    | no l ↦ getD-table-past (λ t. cond (ltb t (g .states)) (ranksAfter g n t) 0) (2 ^ base .latches) s 0 (omega arith)
+  ]
 
   pub rank-in-table : (s : ℕ) → s < g .states → ranksIn (rankTable g) s ≡ rank g s
   unfolding rank
@@ -102,9 +108,13 @@ module _ (g : Game) (proper : Proper g) (few : g .states ≤ 2 ^ base .latches) 
       behind s l = rw (le-ltb s (g .states) l) (behind-table g few k s l)
 
   -- a round that changes nothing is the last that could
-  pub unchanged-is-last : (k : ℕ) → k ≤ g .states → any (λ s. not (eqb (ranksIn (tableAfter g k) s) (ranksIn (tableAfter g (k + 1)) s))) (g .states) ≡ false → tableAfter g k ≡ rankTable g
+  pub unchanged-is-last : (k : ℕ) → k ≤ g .states → any (λ s. not (eqb (ranksIn (tableAfter g k) s) (ranksIn (tableAfter g (k + 1)) s))) (g .states) ≡ false
+      → tableAfter g k ≡ rankTable g
   unfolding tableAfter rankTable
-  unchanged-is-last k l e = table-same _ _ (2 ^ base .latches) (λ s h. elim (decLt s (g .states)) [ yes m ↦ ap (cond' s) (still-ranks g proper k s still l m) | no m ↦ beyond s (omega arith) ])
+  unchanged-is-last k l e = table-same _ _ (2 ^ base .latches) (λ s h. elim (decLt s (g .states)) [
+    | yes m ↦ ap (cond' s) (still-ranks g proper k s still l m)
+    | no m ↦ beyond s (omega arith)
+  ])
     where
       cond' : ℕ → ℕ → ℕ
       cond' s n = cond (ltb s (g .states)) n 0
@@ -116,11 +126,16 @@ module _ (g : Game) (proper : Proper g) (few : g .states ≤ 2 ^ base .latches) 
       same s h = eqb-true _ _ (not-false _ (any-none (λ t. not (eqb (ranksIn (tableAfter g k) t) (ranksIn (tableAfter g (k + 1)) t))) (g .states) s e h))
 
       still : Still g k
-      still = still-of g k (λ s h. sym (ap (λ (n : ℕ). ranksAfter g n s) (add-one k)) ∙ sym (in-table g few (k + 1) s h) ∙ sym (same s h) ∙ in-table g few k s h)
+      still =
+          still-of g k (λ s h. sym (ap (λ (n : ℕ). ranksAfter g n s) (add-one k)) ∙ sym (in-table g few (k + 1) s h) ∙ sym (same s h) ∙ in-table g few k s h)
 
-  pub unchanged-table : (k : ℕ) → any (λ s. not (eqb (ranksIn (tableAfter g k) s) (ranksIn (tableAfter g (k + 1)) s))) (g .states) ≡ false → tableAfter g (k + 1) ≡ tableAfter g k
+  pub unchanged-table : (k : ℕ) → any (λ s. not (eqb (ranksIn (tableAfter g k) s) (ranksIn (tableAfter g (k + 1)) s))) (g .states) ≡ false
+      → tableAfter g (k + 1) ≡ tableAfter g k
   unfolding tableAfter
-  unchanged-table k e = table-same _ _ (2 ^ base .latches) (λ s h. elim (decLt s (g .states)) [ yes m ↦ ap (λ (n : ℕ). cond (ltb s (g .states)) n 0) (sym (in-table g few (k + 1) s m) ∙ sym (same s m) ∙ in-table g few k s m) | no m ↦ rw (le-ltb s (g .states) (omega arith)) ])
+  unchanged-table k e = table-same _ _ (2 ^ base .latches) (λ s h. elim (decLt s (g .states)) [
+    | yes m ↦ ap (λ (n : ℕ). cond (ltb s (g .states)) n 0) (sym (in-table g few (k + 1) s m) ∙ sym (same s m) ∙ in-table g few k s m)
+    | no m ↦ rw (le-ltb s (g .states) (omega arith))
+  ])
     where
       same : (s : ℕ) → s < g .states → ranksIn (tableAfter g k) s ≡ ranksIn (tableAfter g (k + 1)) s
       same s h = eqb-true _ _ (not-false _ (any-none (λ t. not (eqb (ranksIn (tableAfter g k) t) (ranksIn (tableAfter g (k + 1)) t))) (g .states) s e h))
@@ -149,8 +164,10 @@ module _ (g : Game) (states k : ℕ) (ranks after : List ℕ) (fair : Fair g sta
   rounds-next h e = record { within = omega arith; is = next-is e }
 
   -- a round that changes nothing makes the list of ranks
-  pub rounds-stop : (changed : Bool) → after ≡ roundTable g states k ranks → changed ≡ any (λ s. not (eqb (ranksIn ranks s) (ranksIn after s))) states → changed ≡ false → after ≡ rankTable g
-  rounds-stop changed e f q = next-is e ∙ unchanged-table g (fair .proper) (fair .few) k none ∙ unchanged-is-last g (fair .proper) (fair .few) k (omega (arith, ranked .within, fair .all)) none
+  pub rounds-stop : (changed : Bool) → after ≡ roundTable g states k ranks → changed ≡ any (λ s. not (eqb (ranksIn ranks s) (ranksIn after s))) states
+      → changed ≡ false → after ≡ rankTable g
+  rounds-stop changed e f q = next-is e ∙ unchanged-table g (fair .proper) (fair .few) k none
+      ∙ unchanged-is-last g (fair .proper) (fair .few) k (omega (arith, ranked .within, fair .all)) none
     where
       none : any (λ s. not (eqb (ranksIn (tableAfter g k) s) (ranksIn (tableAfter g (k + 1)) s))) (g .states) ≡ false
       none = sym (λ x. any (λ s. not (eqb (ranksIn (ranked .is x) s) (ranksIn (next-is e x) s))) (fair .all x)) ∙ sym f ∙ q
@@ -160,7 +177,10 @@ module _ (g : Game) (states k : ℕ) (ranks after : List ℕ) (fair : Fair g sta
 
 -- no rank is above the number of rounds
 pub ranks-most : (g : Game) (states k : ℕ) (ranks : List ℕ) → Fair g states → Ranked g states k ranks → (t : ℕ) → ranksIn ranks t ≤ k
-ranks-most g states k ranks fair ranked t = elim (decLt t (g .states)) [ yes h ↦ omega (arith, ap (λ (l : List ℕ). ranksIn l t) (ranked .is) ∙ in-table g (fair .few) k t h, rank-most g k t) | no h ↦ omega (arith, ap (λ (l : List ℕ). ranksIn l t) (ranked .is) ∙ behind-table g (fair .few) k t (omega arith)) ]
+ranks-most g states k ranks fair ranked t = elim (decLt t (g .states)) [
+  | yes h ↦ omega (arith, ap (λ (l : List ℕ). ranksIn l t) (ranked .is) ∙ in-table g (fair .few) k t h, rank-most g k t)
+  | no h ↦ omega (arith, ap (λ (l : List ℕ). ranksIn l t) (ranked .is) ∙ behind-table g (fair .few) k t (omega arith))
+]
 
 pub table-long : (g : Game) (ranks : List ℕ) → ranks ≡ rankTable g → length ranks ≡ 2 ^ base .latches
 unfolding rankTable

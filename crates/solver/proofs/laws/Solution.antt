@@ -2,9 +2,7 @@
 use Prim.Native.Nat.{ℕ, _*_, _/_, _%_, _^_, _<_, _≤_}
 use native.Mathlib.Omega.{arith}
 use mathlib.Core.Bool.{Bool, cond}
-use mathlib.Core.List.{List}
 use mathlib.Core.Path.{_≡_, ap, _∙_}
-use lib.Dec.{ltb}
 use lib.ListN.{length, getD, take}
 use borrow.Author.Tests.{lt-ltb}
 use Rattle.below.specs.Table.{table}
@@ -21,11 +19,13 @@ module _ (g : Game) where
   unfolding replyTable
   replies-long = length-table _ (2 ^ base .latches * 2 ^ base .uncontrollable)
 
-  pub replies-front : g .states * g .readings ≤ 2 ^ base .latches * 2 ^ base .uncontrollable → take (g .states * g .readings) (replyTable g) ≡ table (λ i. reply g (i / g .readings) (i % g .readings)) (g .states * g .readings)
+  pub replies-front : g .states * g .readings ≤ 2 ^ base .latches * 2 ^ base .uncontrollable
+      → take (g .states * g .readings) (replyTable g) ≡ table (λ i. reply g (i / g .readings) (i % g .readings)) (g .states * g .readings)
   unfolding replyTable
   replies-front few =
       take-table _ (2 ^ base .latches * 2 ^ base .uncontrollable) (g .states * g .readings) few
-      ∙ table-same _ _ (g .states * g .readings) (λ i h. ap (λ (b : Bool). cond b (reply g (i / g .readings) (i % g .readings)) 0) (lt-ltb i (g .states * g .readings) h))
+      ∙ table-same _ _ (g .states * g .readings)
+      (λ i h. ap (λ (b : Bool). cond b (reply g (i / g .readings) (i % g .readings)) 0) (lt-ltb i (g .states * g .readings) h))
 
   pub attack-in-table : g .states ≤ 2 ^ base .latches → (s : ℕ) → s < g .states → getD (attackTable g) s 0 ≡ attack g s
   unfolding attackTable

@@ -36,14 +36,20 @@ make-requires c κs = search needs
 array-share-prefix-numbers : tie.Need-array-share-prefix-numbers
 array-share-prefix-numbers c = omega (arith, few (c .before), long (c .before))
 
-slice-aggregate-solve-ordered : tie.Need-slice-aggregate-solve-ordered
-slice-aggregate-solve-ordered c = sym (length-take-le (c .before .before .make .result .length) (c .before .before .make .result .numbers) (omega (arith, few (c .before .before), long (c .before .before))))
+slice-aggregate-solve-net : tie.Need-slice-aggregate-solve-net
+slice-aggregate-solve-net c =
+    sym (length-take-le (c .before .before .make .result .length) (c .before .before .make .result .numbers) (omega (
+      arith,
+      few (c .before .before),
+      long (c .before .before),
+    )))
 
-solve-ordered-requires : tie.Need-solve-ordered-requires
-solve-ordered-requires c κs = subst InOrder (sym (front (c .before .before))) (net-in-order _ (room (c .before .before)))
+solve-net-requires : tie.Need-solve-net-requires
+solve-net-requires c κs = subst InOrder (sym (front (c .before .before))) (net-in-order _ (room (c .before .before)))
 
 returns : tie.Need-returns
-returns c = c .solve-ordered .ensures ∙ ap (λ (l : List ℕ). solutionOf (netGame (solvableNet l))) (front (c .before .before .before)) ∙ ap solutionOf (solvable-game (meant (c .before .before .before .before .args .c)))
+returns c = c .solve-net .ensures ∙ ap (λ (l : List ℕ). solutionOf (netGame (solvableNet l))) (front (c .before .before .before))
+    ∙ ap solutionOf (solvable-game (meant (c .before .before .before .before .args .c)))
 
 pub solve-spec : {M : Type 1} → statement M
 solve-spec =
@@ -51,6 +57,6 @@ solve-spec =
     (tie.spec
     make-requires
     array-share-prefix-numbers
-    slice-aggregate-solve-ordered
-    solve-ordered-requires
+    slice-aggregate-solve-net
+    solve-net-requires
     returns)

@@ -38,7 +38,8 @@ slotAt planes i = λ j. getD planes (i * slot + j) 0
 
 -- what a slot says of each lane is what the move there does
 pub record HeldAt (net : List ℕ) (word : ℕ → ℕ) : Type 0 where
-  pub says : 0 < word 11 → (j : ℕ) → j < width → (set : ℕ → Bool) → (not (lane (word 10) j) && set (numberOf word (netLatches net) j)) ≡ moveKeeps net set (moveIn (word 11 - 1) j)
+  pub says : 0 < word 11 → (j : ℕ) → j < width → (set : ℕ → Bool)
+      → (not (lane (word 10) j) && set (numberOf word (netLatches net) j)) ≡ moveKeeps net set (moveIn (word 11 - 1) j)
 
 pub record AllHeld (net planes : List ℕ) : Type 0 where
   pub some : slot ≤ length planes
@@ -47,4 +48,5 @@ pub record AllHeld (net planes : List ℕ) : Type 0 where
 -- the slot that begins at a number holds a block
 pub record Holds (net planes : List ℕ) (at block : ℕ) : Type 0 where
   pub within : at + slot ≤ length planes
-  pub says : (j : ℕ) → j < width → (set : ℕ → Bool) → keepsIn set (getD planes (at + 10) 0) (take (netLatches net) (drop at planes)) j ≡ moveKeeps net set (moveIn block j)
+  pub says : (j : ℕ) → j < width → (set : ℕ → Bool)
+      → keepsIn set (getD planes (at + 10) 0) (take (netLatches net) (drop at planes)) j ≡ moveKeeps net set (moveIn block j)

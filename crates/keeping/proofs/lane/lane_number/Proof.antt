@@ -2,12 +2,11 @@
 use Prim.Native.Nat.{ℕ, _-_, min}
 use native.Mathlib.Omega.{arith}
 use mathlib.Core.Path.{_≡_, ap, _∙_, subst}
-use lib.ListN.{length, getD}
+use lib.ListN.{length}
 use Rattle.bits.specs.Bit.{oneIf}
 use Rattle.circuit.specs.Limits.{base}
-use Rattle.blocks.specs.Lane.{lane}
 use Rattle.keeping.specs.contracts.InLane.{numberOf, laneNumber}
-use Rattle.keeping.proofs.laws.InLane.{laneBit, lane-bit-small, number-fits}
+use Rattle.keeping.proofs.laws.InLane.{laneBit, number-fits}
 use Rattle.step.proofs.laws.Truths.{one-if-bit}
 use Rattle.step.proofs.laws.FromTop.{FromTop, top-start, top-next, top-end}
 use borrow.Author.Needs.{needs}
@@ -24,7 +23,8 @@ fewer-requires : tie.Need-fewer-requires Inv-loop μ-loop
 fewer-requires c κs = search needs
 
 loop-holds : tie.Need-loop-holds Inv-loop μ-loop
-loop-holds c = let a = c .before .before .args in rw (c .fewer .ensures) (top-start (laneBit (a .words .now) (a .j)) (min (length (a .words .now)) (base .latches)))
+loop-holds c = let a = c .before .before .args in
+    rw (c .fewer .ensures) (top-start (laneBit (a .words .now) (a .j)) (min (length (a .words .now)) (base .latches)))
 
 sub-k : tie.Need-sub-k Inv-loop μ-loop
 sub-k c = search needs

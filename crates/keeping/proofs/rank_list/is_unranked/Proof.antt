@@ -14,7 +14,8 @@ returns : tie.Need-returns
 returns c = let a = c .before .before .before .args in sym (unranked-zero (ranksIn (a .ranks .now)) (a .bound) (a .state) (omega arith))
 
 returns-2 : tie.Need-returns-2
-returns-2 c = let a = c .before .before .before .args in above-unranked (ranksIn (a .ranks .now)) (a .bound) (a .state) (c .before .rank-at .result) (c .before .rank-at .ensures) (omega arith)
+returns-2 c = let a = c .before .before .before .args in
+    above-unranked (ranksIn (a .ranks .now)) (a .bound) (a .state) (c .before .rank-at .result) (c .before .rank-at .ensures) (omega arith)
 
 pub is-unranked-spec : {M : Type 1} → statement M
 is-unranked-spec = tie.close (tie.spec rank-at-requires returns returns-2)

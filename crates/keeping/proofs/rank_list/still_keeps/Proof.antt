@@ -12,10 +12,13 @@ is-unranked-requires : tie.Need-is-unranked-requires
 is-unranked-requires c κs = search needs
 
 returns : tie.Need-returns
-returns c = let a = c .before .before .before .args in c .is-unranked .ensures ∙ sym (ap (λ (b : Bool). b && notRanked (ranksIn (a .ranks .now)) (a .bound) (a .lead)) (lt-ltb 0 (a .found) (c .before .if1 .taken)))
+returns c = let a = c .before .before .before .args in
+    c .is-unranked .ensures ∙ sym (ap (λ (b : Bool). b && notRanked (ranksIn (a .ranks .now)) (a .bound) (a .lead))
+    (lt-ltb 0 (a .found) (c .before .if1 .taken)))
 
 returns-2 : tie.Need-returns-2
-returns-2 c = let a = c .before .before .args in sym (ap (λ (b : Bool). b && notRanked (ranksIn (a .ranks .now)) (a .bound) (a .lead)) (le-ltb 0 (a .found) (c .if1 .left)))
+returns-2 c = let a = c .before .before .args in
+    sym (ap (λ (b : Bool). b && notRanked (ranksIn (a .ranks .now)) (a .bound) (a .lead)) (le-ltb 0 (a .found) (c .if1 .left)))
 
 pub still-keeps-spec : {M : Type 1} → statement M
 still-keeps-spec = tie.close (tie.spec is-unranked-requires returns returns-2)

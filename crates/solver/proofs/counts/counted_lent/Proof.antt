@@ -30,8 +30,12 @@ returns : tie.Need-returns
 returns c = let k = c .before .before in
     let u = k .before .before in
     let i = u .before .before in
-    let a = i .before .before .before .before .args in
-    (λ largest next output gate left right. no-counts (a .inputs) (a .latches) (i .fewer .result) (u .uncontrollable-count .result) (k .controllable-count .result) (a .input .now) (a .controllable .now) (a .latch .now) (i .fewer .ensures) (u .uncontrollable-count .ensures) (k .controllable-count .ensures) largest next output gate left right (sym (c .before .too-many .ensures) ∙ c .if1 .taken), (omega arith, omega arith))
+    let a = i .before .before .before .before .args in (
+      λ largest next output gate left right. no-counts (a .inputs) (a .latches) (i .fewer .result) (u .uncontrollable-count .result)
+          (k .controllable-count .result) (a .input .now) (a .controllable .now) (a .latch .now) (i .fewer .ensures) (u .uncontrollable-count .ensures)
+          (k .controllable-count .ensures) largest next output gate left right (sym (c .before .too-many .ensures) ∙ c .if1 .taken),
+      (omega arith, omega arith),
+    )
 
 fewer-requires-2 : tie.Need-fewer-requires-2
 fewer-requires-2 c κs = search needs
@@ -46,8 +50,13 @@ returns-2 c = let l = c .before in
     let u = k .before .before in
     let i = u .before .before in
     let a = i .before .before .before .before .args in
-    let few = sym (t .too-many .ensures) ∙ l .before .if1 .left in
-    (λ largest next output gate left right. all-counts (a .inputs) (a .latches) (i .fewer .result) (u .uncontrollable-count .result) (k .controllable-count .result) (a .input .now) (a .controllable .now) (a .latch .now) (i .fewer .ensures) (u .uncontrollable-count .ensures) (k .controllable-count .ensures) largest next output gate left right (l .fewer2 .result) (c .latches-of .result) few (l .fewer2 .ensures) (c .latches-of .ensures), (omega (arith, c .latches-of .ensures), few-are (u .uncontrollable-count .result) (k .controllable-count .result) few .0))
+    let few = sym (t .too-many .ensures) ∙ l .before .if1 .left in (
+      λ largest next output gate left right. all-counts (a .inputs) (a .latches) (i .fewer .result) (u .uncontrollable-count .result)
+          (k .controllable-count .result) (a .input .now) (a .controllable .now) (a .latch .now) (i .fewer .ensures) (u .uncontrollable-count .ensures)
+          (k .controllable-count .ensures) largest next output gate left right (l .fewer2 .result) (c .latches-of .result) few (l .fewer2 .ensures)
+          (c .latches-of .ensures),
+      (omega (arith, c .latches-of .ensures), few-are (u .uncontrollable-count .result) (k .controllable-count .result) few .0),
+    )
 
 pub counted-lent-spec : {M : Type 1} → statement M
 counted-lent-spec =

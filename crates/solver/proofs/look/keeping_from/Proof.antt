@@ -1,24 +1,21 @@
 -- `solver::look::keeping_from` meets its contract: no move passed keeps; a block is searched lane by lane.
-use Prim.Native.Nat.{ℕ, _+_, _-_, _≤_}
+use Prim.Native.Nat.{_-_}
 use native.Mathlib.Omega.{arith}
-use mathlib.Core.List.{List}
-use mathlib.Core.Path.{_≡_, ap, _∙_}
-use lib.ListN.{length, take, drop}
+use mathlib.Core.Path.{_≡_}
+use lib.ListN.{length}
 use Rattle.below.proofs.laws.LeastFrom.{Searched, searched-from, searched-end}
 use Rattle.game.specs.Rank.{notRanked}
 use Rattle.keeping.specs.RankList.{ranksIn}
 use Rattle.solver.specs.contracts.Moves.{moveKeeps}
 use Rattle.solver.specs.contracts.Planes.{AllHeld}
-use Rattle.solver.proofs.laws.Search.{lane-within, lane-found, lane-lead, lane-later, lane-forward}
+use Rattle.solver.proofs.laws.Search.{turn-of, lane-within, lane-found, lane-lead, lane-later, lane-forward}
 use borrow.Author.Needs.{needs}
 use Rattle.solver.proofs.look.keeping_from.Statement.{statement}
 use Rattle.solver.proofs.look.keeping_from.Tie as tie
 
-words-are : (planes : List ℕ) (at latches l : ℕ) → latches ≡ l → take (at + latches - at) (drop at planes) ≡ take l (drop at planes)
-words-are planes at latches l e = ap (λ (n : ℕ). take n (drop at planes)) {x = at + latches - at} {y = l} (omega arith)
-
 abbrev Inv-loop : tie.InvT-loop
-Inv-loop net words₀ planes₀ ranks bound from end latches m₀ words planes m = Searched (moveKeeps net (notRanked (ranksIn ranks) bound)) from end m × AllHeld net planes × (length planes ≡ length planes₀)
+Inv-loop net words₀ planes₀ ranks bound from end latches m₀ words planes m =
+    Searched (moveKeeps net (notRanked (ranksIn ranks) bound)) from end m × AllHeld net planes × (length planes ≡ length planes₀)
 
 abbrev μ-loop : tie.MeasureT-loop
 μ-loop net words₀ planes₀ ranks bound from end latches m₀ words planes m = end - m
@@ -30,7 +27,8 @@ loop-holds : tie.Need-loop-holds Inv-loop μ-loop
 loop-holds c = let s = c .before .before .before .before in (searched-from _ _ _ (s .pre .1 .1 .0), s .pre .1 .0, search needs)
 
 hold-requires : tie.Need-hold-requires Inv-loop μ-loop
-hold-requires c κs = let s = c .before .before .before .before .before .before .before .before in (s .pre .0 .order, (c .before .before .before .loop .inv .1, omega (arith, s .pre .1 .1 .1)))
+hold-requires c κs = let s = c .before .before .before .before .before .before .before .before in
+    (s .pre .0 .order, (c .before .before .before .loop .inv .1, omega (arith, s .pre .1 .1 .1)))
 
 mul-fewer : tie.Need-mul-fewer Inv-loop μ-loop
 mul-fewer c = search needs
@@ -72,57 +70,49 @@ mul-m : tie.Need-mul-m Inv-loop μ-loop
 mul-m c = search needs
 
 add-m : tie.Need-add-m Inv-loop μ-loop
-add-m c = let w = c in
-    let h = w .before .before .before .before .before .before .before .hold in
-    let l = w .before .before .before .before .before .before .before .before .before .before .before .loop in
-    let n = w .before .before .before .before .before .before .before .before .before .before .before .before .latches in
-    let a = w .before .before .before .before .before .before .before .before .before .before .before .before .before .before .before .before .args in
-    omega (arith, lane-within (a .net .now) _ _ (h .result) (notRanked (ranksIn (a .ranks .now)) (a .bound)) (a .from) (a .end) (l .m) (w .before .before .before .before .fewer .result) (w .keeping-lane .result) (words-are _ (h .result) (n .result) _ (n .ensures)) (w .before .before .before .before .fewer .ensures) (l .inv .0) (w .before .before .before .before .before .before .before .before .before .before .loop-test .taken) (h .ensures .0) (w .keeping-lane .ensures), w .before .before .before .before .before .before .before .before .before .before .before .before .before .before .before .before .pre .1 .1 .1)
-
-add-lane-number : tie.Need-add-lane-number Inv-loop μ-loop
-add-lane-number c = search needs
-
-mul-lane-number : tie.Need-mul-lane-number Inv-loop μ-loop
-mul-lane-number c = search needs
-
-sub-lane-number : tie.Need-sub-lane-number Inv-loop μ-loop
-sub-lane-number c = search needs
-
-part-lane-number-start : tie.Need-part-lane-number-start Inv-loop μ-loop
-part-lane-number-start c = search needs
-
-part-lane-number-end : tie.Need-part-lane-number-end Inv-loop μ-loop
-part-lane-number-end c = search needs
-
-lane-number-requires : tie.Need-lane-number-requires Inv-loop μ-loop
-lane-number-requires c κs = search needs
+add-m c = let w = c .before in
+    let b = w .before .before .before .before in
+    let h = b .before .before .before .hold in
+    let t = b .before .before .before .before .before .before .loop-test in
+    let l = b .before .before .before .before .before .before .before .loop in
+    let n = b .before .before .before .before .before .before .before .before .latches in
+    let turn = turn-of (n .result) (n .ensures) (b .fewer .ensures) (l .inv .0) (t .taken) (h .ensures .0) (w .keeping-lane .ensures .0) in
+    let s = b .before .before .before .before .before .before .before .before .before .before .before .before in
+    omega (arith, lane-within turn, s .pre .1 .1 .1)
 
 same-length : tie.Need-same-length Inv-loop μ-loop
 same-length c = search needs
 
 returns : tie.Need-returns Inv-loop μ-loop
-returns c = let w = c .before .before .before .before in
-    let h = w .before .before .before .before .before .before .before .hold in
-    let l = w .before .before .before .before .before .before .before .before .before .before .before .loop in
-    let n = w .before .before .before .before .before .before .before .before .before .before .before .before .latches in
-    let a = w .before .before .before .before .before .before .before .before .before .before .before .before .before .before .before .before .args in
-    (lane-found (a .net .now) _ _ (h .result) (notRanked (ranksIn (a .ranks .now)) (a .bound)) (a .from) (a .end) (l .m) (w .before .before .before .before .fewer .result) (w .keeping-lane .result) (words-are _ (h .result) (n .result) _ (n .ensures)) (w .before .before .before .before .fewer .ensures) (l .inv .0) (w .before .before .before .before .before .before .before .before .before .before .loop-test .taken) (h .ensures .0) (w .keeping-lane .ensures) (c .before .before .before .if1 .taken), λ h₁. lane-lead (a .net .now) _ _ (h .result) (notRanked (ranksIn (a .ranks .now)) (a .bound)) (a .from) (a .end) (l .m) (w .before .before .before .before .fewer .result) (w .keeping-lane .result) (words-are _ (h .result) (n .result) _ (n .ensures)) (w .before .before .before .before .fewer .ensures) (l .inv .0) (w .before .before .before .before .before .before .before .before .before .before .loop-test .taken) (h .ensures .0) (w .keeping-lane .ensures) (c .before .before .before .if1 .taken) (c .lane-number .result) (c .lane-number .ensures), h .ensures .1)
+returns c = let w = c .before .before .before in
+    let b = w .before .before .before .before in
+    let h = b .before .before .before .hold in
+    let t = b .before .before .before .before .before .before .loop-test in
+    let l = b .before .before .before .before .before .before .before .loop in
+    let n = b .before .before .before .before .before .before .before .before .latches in
+    let turn = turn-of (n .result) (n .ensures) (b .fewer .ensures) (l .inv .0) (t .taken) (h .ensures .0) (w .keeping-lane .ensures .0) in
+    let here = c .if1 .taken in
+    (lane-found turn here, λ _. lane-lead turn here (w .keeping-lane .result .lead) (w .keeping-lane .ensures .1 here), h .ensures .1)
 
 loop-less : tie.Need-loop-less Inv-loop μ-loop
-loop-less c = let w = c .before in
-    let h = w .before .before .before .before .before .before .before .hold in
-    let l = w .before .before .before .before .before .before .before .before .before .before .before .loop in
-    let n = w .before .before .before .before .before .before .before .before .before .before .before .before .latches in
-    let a = w .before .before .before .before .before .before .before .before .before .before .before .before .before .before .before .before .args in
-    lane-forward (a .net .now) _ _ (h .result) (notRanked (ranksIn (a .ranks .now)) (a .bound)) (a .from) (a .end) (l .m) (w .before .before .before .before .fewer .result) (w .keeping-lane .result) (words-are _ (h .result) (n .result) _ (n .ensures)) (w .before .before .before .before .fewer .ensures) (l .inv .0) (w .before .before .before .before .before .before .before .before .before .before .loop-test .taken) (h .ensures .0) (w .keeping-lane .ensures) (c .if1 .left)
+loop-less c = let w = c .before .before .before in
+    let b = w .before .before .before .before in
+    let h = b .before .before .before .hold in
+    let t = b .before .before .before .before .before .before .loop-test in
+    let l = b .before .before .before .before .before .before .before .loop in
+    let n = b .before .before .before .before .before .before .before .before .latches in
+    let turn = turn-of (n .result) (n .ensures) (b .fewer .ensures) (l .inv .0) (t .taken) (h .ensures .0) (w .keeping-lane .ensures .0) in
+    lane-forward turn (c .if1 .left)
 
 loop-again : tie.Need-loop-again Inv-loop μ-loop
-loop-again c = let w = c .before in
-    let h = w .before .before .before .before .before .before .before .hold in
-    let l = w .before .before .before .before .before .before .before .before .before .before .before .loop in
-    let n = w .before .before .before .before .before .before .before .before .before .before .before .before .latches in
-    let a = w .before .before .before .before .before .before .before .before .before .before .before .before .before .before .before .before .args in
-    (lane-later (a .net .now) _ _ (h .result) (notRanked (ranksIn (a .ranks .now)) (a .bound)) (a .from) (a .end) (l .m) (w .before .before .before .before .fewer .result) (w .keeping-lane .result) (words-are _ (h .result) (n .result) _ (n .ensures)) (w .before .before .before .before .fewer .ensures) (l .inv .0) (w .before .before .before .before .before .before .before .before .before .before .loop-test .taken) (h .ensures .0) (w .keeping-lane .ensures) (c .if1 .left), h .ensures .1, search needs)
+loop-again c = let w = c .before .before .before in
+    let b = w .before .before .before .before in
+    let h = b .before .before .before .hold in
+    let t = b .before .before .before .before .before .before .loop-test in
+    let l = b .before .before .before .before .before .before .before .loop in
+    let n = b .before .before .before .before .before .before .before .before .latches in
+    let turn = turn-of (n .result) (n .ensures) (b .fewer .ensures) (l .inv .0) (t .taken) (h .ensures .0) (w .keeping-lane .ensures .0) in
+    (lane-later turn (c .if1 .left), h .ensures .1, search needs)
 
 same-length-2 : tie.Need-same-length-2 Inv-loop μ-loop
 same-length-2 c = search needs
@@ -153,12 +143,6 @@ keeping-from-spec =
     keeping-lane-requires
     mul-m
     add-m
-    add-lane-number
-    mul-lane-number
-    sub-lane-number
-    part-lane-number-start
-    part-lane-number-end
-    lane-number-requires
     same-length
     returns
     loop-less

@@ -33,22 +33,33 @@ still-keeps-requires : tie.Need-still-keeps-requires
 still-keeps-requires c κs = search needs
 
 cast-result : tie.Need-cast-result
-cast-result c = let s = c .before .before .before .before .before .before .before .before in omega (arith, (s .pre .1 .at (s .args .place) (s .pre .0)) .few, few-controls (s .args .net .now) (s .pre .1 .small))
+cast-result c = let s = c .before .before .before .before .before .before .before .before in
+    omega (arith, (s .pre .1 .at (s .args .place) (s .pre .0)) .few, few-controls (s .args .net .now) (s .pre .1 .small))
 
 sub-result : tie.Need-sub-result
 sub-result c = let s = c .before .before .before .before .before .before .before .before in
     let a = s .args in
-    still-some (a .net .now) (ranksIn (a .ranks .now)) (a .bound) (a .place) _ _ (s .pre .1 .at (a .place) (s .pre .0)) (sym (c .before .still-keeps .ensures) ∙ c .if1 .taken)
+    still-some (a .net .now) (ranksIn (a .ranks .now)) (a .bound) (a .place) _ _ (s .pre .1 .at (a .place) (s .pre .0))
+    (sym (c .before .still-keeps .ensures) ∙ c .if1 .taken)
 
 returns : tie.Need-returns
 returns c = let s = c .before .before .before .before .before .before .before .before in
-    let a = s .args in
-    (still-least (a .net .now) (ranksIn (a .ranks .now)) (a .bound) (a .place) _ _ (s .pre .1 .at (a .place) (s .pre .0)) (sym (c .before .still-keeps .ensures) ∙ c .if1 .taken), s .pre .1)
+    let a = s .args in (
+      still-least (a .net .now) (ranksIn (a .ranks .now)) (a .bound) (a .place) _ _ (s .pre .1 .at (a .place) (s .pre .0))
+          (sym (c .before .still-keeps .ensures) ∙ c .if1 .taken),
+      s .pre .1,
+    )
 
 look-on-requires : tie.Need-look-on-requires
 look-on-requires c κs = let s = c .before .before .before .before .before .before .before .before .before .before .before in
-    let a = s .args in
-    (s .pre .0, (s .pre .1, none-behind (a .net .now) (ranksIn (a .ranks .now)) (a .bound) (a .place) _ _ (s .pre .1 .at (a .place) (s .pre .0)) (sym (c .before .before .before .before .still-keeps .ensures) ∙ c .before .before .before .if1 .left)))
+    let a = s .args in (
+      s .pre .0,
+      (
+        s .pre .1,
+        none-behind (a .net .now) (ranksIn (a .ranks .now)) (a .bound) (a .place) _ _ (s .pre .1 .at (a .place) (s .pre .0))
+            (sym (c .before .before .before .before .still-keeps .ensures) ∙ c .before .before .before .if1 .left),
+      ),
+    )
 
 same-length : tie.Need-same-length
 same-length c = search needs

@@ -12,7 +12,8 @@ numbers-requires : tie.Need-numbers-requires
 numbers-requires c κs = search needs
 
 returns : tie.Need-returns
-returns c = let s = c .before .before .before in c .numbers .ensures ∙ states-are (s .args .net .now) (s .pre) (c .before .latches .result) (c .before .latches .ensures)
+returns c = let s = c .before .before .before in
+    c .numbers .ensures ∙ states-are (s .args .net .now) (s .pre) (c .before .latches .result) (c .before .latches .ensures)
 
 pub states-spec : {M : Type 1} → statement M
 states-spec = tie.close (tie.spec latches-requires numbers-requires returns)

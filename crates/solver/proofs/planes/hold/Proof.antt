@@ -1,5 +1,4 @@
 -- `solver::planes::hold` meets its contract: the slot holds the block already, or it is evaluated into it.
-use mathlib.Core.Path.{_≡_}
 use Rattle.solver.proofs.laws.Held.{hold-old, hold-new}
 use borrow.Author.Needs.{needs}
 use Rattle.solver.proofs.planes.hold.Statement.{statement}
@@ -26,7 +25,8 @@ slice-read-if1 c = search needs
 returns : tie.Need-returns
 returns c = let s = c .before .before .before .before .before in
     let a = s .args in
-    hold-old (a .net .now) (a .planes .now) (a .block) (c .before .before .slot-of .result) (s .pre .0) (s .pre .1 .0) (c .before .before .slot-of .ensures) (c .if1 .taken)
+    hold-old (a .net .now) (a .planes .now) (a .block) (c .before .before .slot-of .result) (s .pre .0) (s .pre .1 .0) (c .before .before .slot-of .ensures)
+    (c .if1 .taken)
 
 evaluate-requires : tie.Need-evaluate-requires
 evaluate-requires c κs = search needs
@@ -40,7 +40,9 @@ same-length c = search needs
 returns-2 : tie.Need-returns-2
 returns-2 c = let s = c .before .before .before .before .before .before .before .before .before .before .before .before .before in
     let a = s .args in
-    hold-new (a .net .now) (a .planes .now) (a .block) (c .before .before .before .before .before .before .before .before .before .before .slot-of .result) (s .pre .0) (s .pre .1 .0) (c .before .before .before .before .before .before .before .before .before .before .slot-of .ensures) _ _ _ (c .before .before .before .before .before .before .evaluate .ensures) (c .before .before .put-planes .ensures)
+    hold-new (a .net .now) (a .planes .now) (a .block) (c .before .before .before .before .before .before .before .before .before .before .slot-of .result)
+    (s .pre .0) (s .pre .1 .0) (c .before .before .before .before .before .before .before .before .before .before .slot-of .ensures) _ _ _
+    (c .before .before .before .before .before .before .evaluate .ensures) (c .before .before .put-planes .ensures)
 
 pub hold-spec : {M : Type 1} → statement M
 hold-spec =

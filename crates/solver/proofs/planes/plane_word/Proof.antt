@@ -26,7 +26,8 @@ word-at-requires c κs = search needs
 returns : tie.Need-returns
 unfolding planeWord
 returns c = let a = c .before .before .before .before .before .args in
-    c .word-at .ensures ∙ ap (λ (l : ℕ). getD (a .words .now) (l % literals) 0) (c .before .number-at .ensures) ∙ sym (rw (lt-ltb (a .i) (base .latches) (c .before .before .if1 .taken)))
+    c .word-at .ensures ∙ ap (λ (l : ℕ). getD (a .words .now) (l % literals) 0) (c .before .number-at .ensures)
+    ∙ sym (rw (lt-ltb (a .i) (base .latches) (c .before .before .if1 .taken)))
 
 number-at-requires-2 : tie.Need-number-at-requires-2
 number-at-requires-2 c κs = search needs
@@ -40,7 +41,8 @@ word-at-requires-2 c κs = search needs
 returns-2 : tie.Need-returns-2
 unfolding planeWord netOutput
 returns-2 c = let a = c .before .before .before .before .before .before .args in
-    c .word-at2 .ensures ∙ ap (λ (l : ℕ). getD (a .words .now) (l % literals) 0) (c .before .number-at2 .ensures) ∙ sym (rw (le-ltb (a .i) (base .latches) (c .before .before .before .if1 .left), eq-eqb (a .i) (base .latches) (c .before .before .if2 .taken)))
+    c .word-at2 .ensures ∙ ap (λ (l : ℕ). getD (a .words .now) (l % literals) 0) (c .before .number-at2 .ensures)
+    ∙ sym (rw (le-ltb (a .i) (base .latches) (c .before .before .before .if1 .left), eq-eqb (a .i) (base .latches) (c .before .before .if2 .taken)))
 
 returns-3 : tie.Need-returns-3
 unfolding planeWord

@@ -1,5 +1,5 @@
 -- `solver::planes::put_planes` meets its contract: the words passed are those of the block, the others as before.
-use Prim.Native.Nat.{ℕ, _+_, _-_, _≤_}
+use Prim.Native.Nat.{_+_, _-_, _≤_}
 use native.Mathlib.Omega.{arith}
 use mathlib.Core.Bool.{cond}
 use lib.Dec.{ltb}
@@ -12,13 +12,15 @@ use Rattle.solver.proofs.planes.put_planes.Statement.{statement}
 use Rattle.solver.proofs.planes.put_planes.Tie as tie
 
 abbrev Inv-loop : tie.InvT-loop
-Inv-loop planes₀ at net words mark i₀ planes i = Filled (λ x. cond (ltb x at) (getD planes₀ x 0) (planeWord net words mark (x - at))) planes₀ (at + i) planes × (i ≤ slot)
+Inv-loop planes₀ at net words mark i₀ planes i =
+    Filled (λ x. cond (ltb x at) (getD planes₀ x 0) (planeWord net words mark (x - at))) planes₀ (at + i) planes × (i ≤ slot)
 
 abbrev μ-loop : tie.MeasureT-loop
 μ-loop planes₀ at net words mark i₀ planes i = slot - i
 
 loop-holds : tie.Need-loop-holds Inv-loop μ-loop
-loop-holds c = let a = c .before .before .before .args in (slots-start (a .at) _ (planeWord (a .net .now) (a .words .now) (a .mark)) (a .planes .now) (omega arith), omega arith)
+loop-holds c = let a = c .before .before .before .args in
+    (slots-start (a .at) _ (planeWord (a .net .now) (a .words .now) (a .mark)) (a .planes .now) (omega arith), omega arith)
 
 plane-word-requires : tie.Need-plane-word-requires Inv-loop μ-loop
 plane-word-requires c κs = search needs
@@ -40,8 +42,11 @@ loop-less c = search needs
 
 loop-again : tie.Need-loop-again Inv-loop μ-loop
 loop-again c = let l = c .before .before in
-    let a = l .before .before .before .before .args in
-    (slots-next (a .at) (l .loop .i) (c .plane-word .result) (planeWord (a .net .now) (a .words .now) (a .mark)) (a .planes .now) (l .loop .planes) (l .loop .inv .0) (omega arith) (c .plane-word .ensures), omega arith)
+    let a = l .before .before .before .before .args in (
+      slots-next (a .at) (l .loop .i) (c .plane-word .result) (planeWord (a .net .now) (a .words .now) (a .mark)) (a .planes .now) (l .loop .planes)
+          (l .loop .inv .0) (omega arith) (c .plane-word .ensures),
+      omega arith,
+    )
 
 same-length : tie.Need-same-length Inv-loop μ-loop
 same-length c = search needs

@@ -37,7 +37,8 @@ returns : tie.Need-returns Inv-loop μ-loop
 unfolding ranksIn
 returns c = let l = c .before .before .before .before in
     let a = l .before .args in
-    sym (any-of (λ t. not (eqb (ranksIn (a .ranks .now) t) (ranksIn (a .after .now) t))) (a .states) (l .loop .s) (c .before .before .before .loop-test .taken) (ap not (ne-eqb _ _ (c .if1 .taken))))
+    sym (any-of (λ t. not (eqb (ranksIn (a .ranks .now) t) (ranksIn (a .after .now) t))) (a .states) (l .loop .s) (c .before .before .before .loop-test .taken)
+    (ap not (ne-eqb _ _ (c .if1 .taken))))
 
 add-s : tie.Need-add-s Inv-loop μ-loop
 add-s c = search needs
@@ -47,7 +48,8 @@ loop-less c = search needs
 
 loop-again : tie.Need-loop-again Inv-loop μ-loop
 unfolding ranksIn
-loop-again c = let l = c .before .before .before .before in passed-next _ _ (l .loop .s) (l .loop .inv) (c .before .before .before .loop-test .taken) (ap not (eq-eqb _ _ (c .if1 .left)))
+loop-again c = let l = c .before .before .before .before in
+    passed-next _ _ (l .loop .s) (l .loop .inv) (c .before .before .before .loop-test .taken) (ap not (eq-eqb _ _ (c .if1 .left)))
 
 returns-2 : tie.Need-returns-2 Inv-loop μ-loop
 returns-2 c = let l = c .before in

@@ -1,5 +1,5 @@
 -- `solver::rounds::no_attacks` meets its contract: the same number everywhere.
-use Prim.Native.Nat.{_*_, _^_}
+use Prim.Native.Nat.{_^_}
 use Rattle.below.proofs.laws.Filled.{replicate-table}
 use Rattle.circuit.specs.Limits.{base}
 use Rattle.solver.proofs.rounds.no_attacks.Statement.{statement}

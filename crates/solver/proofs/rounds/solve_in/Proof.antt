@@ -18,7 +18,9 @@ no-attacks-requires : tie.Need-no-attacks-requires
 no-attacks-requires c κs = search needs
 
 slice-aggregate-rounds : tie.Need-slice-aggregate-rounds
-slice-aggregate-rounds c = let long : length (c .before .before .before .before .no-attacks .result) ≡ 2 ^ base .latches = ap length (c .before .before .before .before .no-attacks .ensures) ∙ length-table {A = ℕ} (λ i. 0) (2 ^ base .latches) in search needs
+slice-aggregate-rounds c =
+    let long : length (c .before .before .before .before .no-attacks .result) ≡ 2 ^ base .latches = ap length
+    (c .before .before .before .before .no-attacks .ensures) ∙ length-table {A = ℕ} (λ i. 0) (2 ^ base .latches) in search needs
 
 rounds-requires : tie.Need-rounds-requires
 rounds-requires c κs = (c .before .before .before .before .no-attacks .ensures, c .before .before .before .before .before .before .before .before .before .pre)
@@ -35,10 +37,14 @@ cast-put-replies : tie.Need-cast-put-replies
 cast-put-replies c = search needs
 
 slice-aggregate-put-replies-2 : tie.Need-slice-aggregate-put-replies-2
-slice-aggregate-put-replies-2 c = let long : length (c .before .before .before .before .before .no-replies .result) ≡ 2 ^ base .latches * 2 ^ base .uncontrollable = ap length (c .before .before .before .before .before .no-replies .ensures) ∙ length-table {A = ℕ} (λ i. 0) (2 ^ base .latches * 2 ^ base .uncontrollable) in search needs
+slice-aggregate-put-replies-2 c =
+    let long : length (c .before .before .before .before .before .no-replies .result) ≡ 2 ^ base .latches * 2 ^ base .uncontrollable = ap length
+    (c .before .before .before .before .before .no-replies .ensures) ∙ length-table {A = ℕ} (λ i. 0) (2 ^ base .latches * 2 ^ base .uncontrollable) in
+    search needs
 
 put-replies-requires : tie.Need-put-replies-requires
-put-replies-requires c κs = let r = c .before .before .before .before .before .before .before .before .before .before .before .rounds in (r .ensures .2, (c .before .before .before .before .before .no-replies .ensures, r .ensures .3))
+put-replies-requires c κs = let r = c .before .before .before .before .before .before .before .before .before .before .before .rounds in
+    (r .ensures .2, (c .before .before .before .before .before .no-replies .ensures, r .ensures .3))
 
 same-length : tie.Need-same-length
 same-length c = search needs
@@ -48,9 +54,16 @@ same-length-2 c = search needs
 
 returns : tie.Need-returns
 unfolding solutionOf
-returns c = let s = c .before .before .before .before .before .before .before .before .before .before .before .before .before .before .before .before .before .before .before .before .before .before .before .before .before .before .before in
-    let r = c .before .before .before .before .before .before .before .before .before .before .before .before .before .before .before .before .before .rounds in
-    λ x. record { ranks = r .ensures .0 x; replies = (c .before .before .before .before .before .put-replies .ensures ∙ replies-end (s .args .net .now) (r .result) (s .pre .small) (r .ensures .0)) x; attacks = r .ensures .1 x }
+returns c = let c10 = c .before .before .before .before .before .before .before .before .before .before in
+    let c20 = c10 .before .before .before .before .before .before .before .before .before .before in
+    let s = c20 .before .before .before .before .before .before .before in
+    let r = c10 .before .before .before .before .before .before .before .rounds in
+    λ x. record {
+      ranks = r .ensures .0 x;
+      replies =
+          (c .before .before .before .before .before .put-replies .ensures ∙ replies-end (s .args .net .now) (r .result) (s .pre .small) (r .ensures .0)) x;
+      attacks = r .ensures .1 x;
+    }
 
 pub solve-in-spec : {M : Type 1} → statement M
 solve-in-spec =
