@@ -111,7 +111,8 @@ pub extern "C" fn krastopi_step(file: &[u8], state: u16, reading: u8, control: u
 #[no_mangle]
 pub extern "C" fn krastopi_certify(file: &[u8], out: &mut [u8]) -> CertifyAnswer
     ensures { λ r. ⌜ r ≡ certifyAnswer (verdictFor (now (file .entry)) (circuitIn (now (file .entry))) (length (now (out .entry)))) ⌝ }
-    ensures { λ _. ⌜ now (out .exit) ≡ bufferAfter (certificateFor (now (file .entry)) (circuitIn (now (file .entry))) (length (now (out .entry)))) (now (out .entry)) ⌝ }
+    ensures { λ _. ⌜ now (out .exit)
+        ≡ bufferAfter (certificateFor (now (file .entry)) (circuitIn (now (file .entry))) (length (now (out .entry)))) (now (out .entry)) ⌝ }
 {
     plain::certified(writer::certify(file, out))
 }
@@ -168,7 +169,8 @@ pub extern "C" fn krastopi_reply(
     state: usize,
     reading: usize,
 ) -> u8
-    ensures { λ r. ⌜ r ≡ replyIn (drop (passed .region) (now (certificate .entry))) (drop (passed .table) (now (certificate .entry))) (passed .latches) (passed .readings) state reading ⌝ }
+    ensures { λ r. ⌜ r ≡ replyIn (drop (passed .region) (now (certificate .entry))) (drop (passed .table) (now (certificate .entry)))
+        (passed .latches) (passed .readings) state reading ⌝ }
 {
     records::passed::reply(
         certificate,

@@ -11,7 +11,6 @@ use Rattle.checker.proofs.laws.Numbered.{check-numbered}
 use Rattle.circuit.specs.Answer.{WrittenAs, writtenOutcome, countOf, bufferAfter}
 use Rattle.circuit.specs.Circuit.{Circuit, latchCount, uncontrollableCount, controllableCount}
 use Rattle.circuit.specs.Outcome.{Outcome, taken, refused, _>>=_}
-use Rattle.circuit.specs.declared.Written.{Written}
 use Rattle.circuit.specs.declared.Written.the-variants.{Bytes}
 use Rattle.file.specs.CircuitIn.{circuitIn}
 use Rattle.file.proofs.laws.Numbered.{file-numbered, writer-numbered}
@@ -90,9 +89,19 @@ module _ (file before : List ℕ) (a : CertifyAnswer) (is : a ≡ certifyAnswer 
           let (c, reads) = told-reads file (length before) v e in
           let p : Passing file c after v = told-passes file c before after v reads e written in
           let verdict : a .realizable ≡ v .realizable = λ x. f x .realizable in
-          let counted : a .bytes ≡ v .count = λ x. f x .bytes in
-          (c, p .starts, reads, verdict ∙ p .right, ap (λ (n : ℕ). take n after) counted ∙ p .stands, ap (λ (n : ℕ). answerOf file (take n after)) counted ∙ p .passes)
-      by (refused n p) e f = let q : a .number ≡ n = λ x. f x .number in absurd (omega (arith, q, zero, writer-numbered file (certificateOf file) (length before) n p (verdict-refused-exactly file (length before) n p .0 e) .0))
+          let counted : a .bytes ≡ v .count = λ x. f x .bytes in (
+            c,
+            p .starts,
+            reads,
+            verdict ∙ p .right,
+            ap (λ (n : ℕ). take n after) counted ∙ p .stands,
+            ap (λ (n : ℕ). answerOf file (take n after)) counted ∙ p .passes,
+          )
+      by (refused n p) e f =
+          let q : a .number ≡ n = λ x. f x .number in
+          absurd
+          (omega
+          (arith, q, zero, writer-numbered file (certificateOf file) (length before) n p (verdict-refused-exactly file (length before) n p .0 e) .0))
 
   pub number-certified : 1 ≤ a .number → verdictFor file (circuitIn file) (length before) ≡ refused (a .number) (a .place)
   unfolding certifyAnswer
@@ -160,7 +169,9 @@ module _ (file before : List ℕ) (a : PrintAnswer) (is : a ≡ printAnswer (cou
           let w : WrittenAs (filePrinted file (length before)) before after (Bytes n) = record { answer = sym e; bytes = written } in
           let counted : a .bytes ≡ n = λ x. f x .bytes in
           (c, reads, ap (λ (m : ℕ). circuitIn (take m after)) counted ∙ print-reads-back file c reads before after (Bytes n) n w refl)
-      by (refused n p) e f = let q : a .number ≡ n = λ x. f x .number in absurd (omega (arith, q, zero, writer-numbered file printed (length before) n p (count-refused-exactly file (length before) n p .0 e) .0))
+      by (refused n p) e f =
+          let q : a .number ≡ n = λ x. f x .number in
+          absurd (omega (arith, q, zero, writer-numbered file printed (length before) n p (count-refused-exactly file (length before) n p .0 e) .0))
 
   pub number-printed : 1 ≤ a .number → countOf (filePrinted file (length before)) ≡ refused (a .number) (a .place)
   unfolding printAnswer

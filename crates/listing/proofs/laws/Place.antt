@@ -60,7 +60,9 @@ module _ (h : Header) (rest : List (List ℕ)) where
       )
 
   late-few : (rows : List (List ℕ)) → length (lateLiterals h rows) ≤ h .latches + 1
-  late-few rows = simp (length-append, length-map) (omega (arith, length-take (h .latches) (drop (h .inputs) rows), length-take 1 (drop (h .latches) (drop (h .inputs) rows))))
+  late-few rows =
+      simp (length-append, length-map)
+      (omega (arith, length-take (h .latches) (drop (h .inputs) rows), length-take 1 (drop (h .latches) (drop (h .inputs) rows))))
 
   body-place : Within base h → (number place : ℕ) → BodyBroken h rest number place → place < 1004 + length rest
   body-place w number place (inLines k) =

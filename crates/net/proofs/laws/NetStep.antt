@@ -21,7 +21,8 @@ use Rattle.step.specs.Value.{Valuation, valuation, literalValue, put, withInput
 use Rattle.step.proofs.laws.Truths.{one-if-bit}
 use Rattle.step.proofs.laws.Value.{value-constant, value-inverted, value-plain}
 use Rattle.net.specs.Move.{moveOf}
-use Rattle.net.specs.Net.{netControls, netReadings, netLatches, netOutput, netNexts, netOperands, moveBits, withMove, withOperands, netValues, netError, netNext, netStep}
+use Rattle.net.specs.Net.{netControls, netReadings, netLatches, netOutput, netNexts, netOperands}
+use Rattle.net.specs.Net.{moveBits, withMove, withOperands, netValues, netError, netNext, netStep}
 use Rattle.net.specs.NetOf.{Names, name, netLiteral, nameInputs, nameLatches, nameGates, operandsOf, firstNames, allNames, gateStart, netOf}
 use Rattle.net.proofs.laws.Move.{control-bit, reading-bit, state-bit, with-move-at, with-move-none}
 use Rattle.net.proofs.laws.Names.{Below, name-below, below-more, inputs-below, latches-below, gates-below}
