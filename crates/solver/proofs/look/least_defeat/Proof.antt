@@ -15,8 +15,8 @@ use Rattle.solver.proofs.look.least_defeat.Tie as tie
 
 abbrev Inv-loop : tie.InvT-loop
 Inv-loop net words₀ kept₀ planes₀ ranks bound state n controls first end place₀ words kept planes place =
-    Looked net (ranksIn ranks) bound state n kept place × Kept net (ranksIn ranks) bound kept planes × (length kept ≡ length kept₀) ×
-    (length planes ≡ length planes₀)
+    Looked net (ranksIn ranks) bound state n kept place × Kept net (ranksIn ranks) bound kept planes
+    × (length kept ≡ length kept₀) × (length planes ≡ length planes₀)
 
 abbrev μ-loop : tie.MeasureT-loop
 μ-loop net words₀ kept₀ planes₀ ranks bound state n controls first end place₀ words kept planes place = end - place

@@ -19,9 +19,9 @@ use Rattle.solver.proofs.replies.put_replies.Tie as tie
 
 abbrev Inv-loop : tie.InvT-loop
 Inv-loop net words₀ kept₀ planes₀ ranks k replies₀ n i₀ words kept planes replies i =
-    Filled (λ j. replyOver (netGame net) ranks (j / 2 ^ netReadings net) (j % 2 ^ netReadings net)) replies₀ i replies × (i ≤ n) × (n ≡ places net) × Kept net
-    (ranksIn ranks) k kept planes × (length kept ≡ length kept₀) × (length planes ≡ length planes₀) ×
-    (length replies₀ ≡ 2 ^ base .latches * 2 ^ base .uncontrollable)
+    Filled (λ j. replyOver (netGame net) ranks (j / 2 ^ netReadings net) (j % 2 ^ netReadings net)) replies₀ i replies
+    × (i ≤ n) × (n ≡ places net) × Kept net (ranksIn ranks) k kept planes × (length kept ≡ length kept₀)
+    × (length planes ≡ length planes₀) × (length replies₀ ≡ 2 ^ base .latches * 2 ^ base .uncontrollable)
 
 abbrev μ-loop : tie.MeasureT-loop
 μ-loop net words₀ kept₀ planes₀ ranks k replies₀ n i₀ words kept planes replies i = n - i

@@ -26,8 +26,8 @@ use Rattle.solver.proofs.rounds.rounds.Tie as tie
 
 abbrev Inv-loop : tie.InvT-loop
 Inv-loop net words₀ kept₀ planes₀ attacks₀ n ranks₀ k₀ words kept planes attacks ranks k =
-    Ranked (netGame net) (2 ^ netLatches net) k ranks × AttacksAre (netGame net) ranks attacks × Kept net (ranksIn ranks) k kept planes ×
-    (length kept ≡ length kept₀) × (length planes ≡ length planes₀) × (n ≡ 2 ^ netLatches net)
+    Ranked (netGame net) (2 ^ netLatches net) k ranks × AttacksAre (netGame net) ranks attacks
+    × Kept net (ranksIn ranks) k kept planes × (length kept ≡ length kept₀) × (length planes ≡ length planes₀) × (n ≡ 2 ^ netLatches net)
 
 abbrev μ-loop : tie.MeasureT-loop
 μ-loop net words₀ kept₀ planes₀ attacks₀ n ranks₀ k₀ words kept planes attacks ranks k = n - k
