@@ -3,6 +3,7 @@ pub mod Bit
 pub mod ByteBit
 pub mod BitBytes
 pub mod UnusedBits
+pub mod Packed
 pub mod Bytes
 pub mod Wrote
 pub mod InTurn
