@@ -3,7 +3,9 @@ pub mod Bit
 pub mod ByteBit
 pub mod BitBytes
 pub mod UnusedBits
+pub mod UnusedBytes
 pub mod Packed
+pub mod PackedBits
 pub mod Bytes
 pub mod Wrote
 pub mod InTurn

@@ -24,7 +24,7 @@ use Rattle.bits.proofs.laws.ByteBit.{byte-bit-below}
 use Rattle.bits.proofs.laws.Digits.{length-digits, sum-digits, sum-below, all-below-of}
 
 -- bits that are 1 alike are the same
-one-decides : (a b : ℕ) → a < 2 → b < 2 → eqb a 1 ≡ eqb b 1 → a ≡ b
+pub one-decides : (a b : ℕ) → a < 2 → b < 2 → eqb a 1 ≡ eqb b 1 → a ≡ b
 one-decides zero zero h l e = refl
 one-decides zero (suc zero) h l e = cc
 one-decides (suc zero) zero h l e = cc
@@ -74,10 +74,10 @@ packed-zero f n = none (packedBytes f 0 n) (packed-length f 0 n ∙ rw mul-zero)
     none (b ∷ bs) e = absurd (omega arith)
 
 module _ (bytes : List ℕ) (width k : ℕ) where
-  bitsOf : ℕ → ℕ
+  abbrev bitsOf : ℕ → ℕ
   bitsOf j = byteBit bytes (k * width + j)
 
-  first-below : (j : ℕ) → sum 2 (table bitsOf j) < 2 ^ j
+  pub first-below : (j : ℕ) → sum 2 (table bitsOf j) < 2 ^ j
   unfolding bitsOf
   first-below j =
       subst (λ (n : ℕ). sum 2 (table bitsOf j) < 2 ^ n) (length-table bitsOf j)
