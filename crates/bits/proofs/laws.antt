@@ -4,6 +4,7 @@ pub mod ByteBit
 pub mod BitBytes
 pub mod UnusedBits
 pub mod UnusedBytes
+pub mod Gathered
 pub mod Packed
 pub mod PackedBits
 pub mod Bytes

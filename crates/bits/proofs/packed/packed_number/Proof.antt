@@ -6,12 +6,14 @@ use mathlib.Core.Path.{_≡_, sym, ap, _∙_}
 use borrow.Author.Needs.{needs}
 use Rattle.bits.specs.ByteBit.{byteBit}
 use Rattle.bits.specs.Packed.{packedNumber}
-use Rattle.bits.proofs.laws.PackedBits.{Gathered, eights-within, rest-within, bit-by-place, gathered-start, gathered-fits, gathered-next, gathered-all}
+use Rattle.bits.proofs.laws.ByteBit.{byte-bit-below}
+use Rattle.bits.proofs.laws.Gathered.{Gathered, gathered-start, gathered-fits, gathered-next, gathered-all}
+use Rattle.bits.proofs.laws.PackedBits.{eights-within, rest-within, bit-by-place}
 use Rattle.bits.proofs.packed.packed_number.Statement.{statement}
 use Rattle.bits.proofs.packed.packed_number.Tie as tie
 
 abbrev Inv-loop : tie.InvT-loop
-Inv-loop bytes width k w start first number₀ j₀ number j = Gathered bytes w k j number
+Inv-loop bytes width k w start first number₀ j₀ number j = Gathered (λ i. byteBit bytes (k * w + i)) w j number
 
 abbrev μ-loop : tie.MeasureT-loop
 μ-loop bytes width k w start first number₀ j₀ number j = w - j
@@ -26,7 +28,7 @@ mul-first : tie.Need-mul-first Inv-loop μ-loop
 mul-first c = omega (arith, rest-within (c .before .before .args .k) (c .fewer .result) (omega arith))
 
 loop-holds : tie.Need-loop-holds Inv-loop μ-loop
-loop-holds c = let a = c .before .before .args in gathered-start (a .bytes .now) (c .fewer .result) (a .k)
+loop-holds c = let a = c .before .before .args in gathered-start (λ i. byteBit (a .bytes .now) (a .k * c .fewer .result + i)) (c .fewer .result)
 
 add-place : tie.Need-add-place Inv-loop μ-loop
 add-place c = omega (arith, rest-within (c .before .before .before .before .args .k) (c .before .before .fewer .result) (omega arith))
@@ -59,7 +61,7 @@ add-number c =
     let a = c .before .before .before .before .before .args in
     let l = c .before .before .loop in
     let w = c .before .before .before .fewer .result in
-    omega (arith, gathered-fits (a .bytes .now) w (a .k) (l .j) (l .number) (c .bit-at .result) (l .inv) (taken c) (omega arith))
+    omega (arith, gathered-fits _ (λ i. byte-bit-below (a .bytes .now) (a .k * w + i)) w (l .j) (l .number) (c .bit-at .result) (l .inv) (taken c) (omega arith))
 
 add-j : tie.Need-add-j Inv-loop μ-loop
 add-j c = search needs
@@ -72,13 +74,14 @@ loop-again c =
     let a = c .before .before .before .before .before .args in
     let l = c .before .before .loop in
     let w = c .before .before .before .fewer .result in
-    gathered-next (a .bytes .now) w (a .k) (l .j) (l .number) (c .bit-at .result) (l .inv) (taken c) (omega arith) (omega arith)
+    gathered-next _ (λ i. byte-bit-below (a .bytes .now) (a .k * w + i)) w (l .j) (l .number) (c .bit-at .result) (l .inv) (taken c) (omega arith) (omega arith)
 
 returns : tie.Need-returns Inv-loop μ-loop
+unfolding packedNumber
 returns c =
     let a = c .before .before .before .before .args in
     let l = c .before .loop in
-    gathered-all (a .bytes .now) (c .before .before .fewer .result) (a .k) (l .j) (l .number) (l .inv) (c .loop-test .left)
+    gathered-all _ (c .before .before .fewer .result) (l .j) (l .number) (l .inv) (c .loop-test .left)
     ∙ ap (λ (w : ℕ). packedNumber (a .bytes .now) w (a .k)) (c .before .before .fewer .ensures)
 
 pub packed-number-spec : {M : Type 1} → statement M
