@@ -1,1 +1,3 @@
 pub mod Part
+pub mod PackedBit
+pub mod Laid

@@ -18,7 +18,7 @@ use Rattle.bits.specs.Digits.{sum}
 use Rattle.bits.proofs.laws.Bit.{bit-sum}
 use Rattle.bits.proofs.laws.Digits.{all-below-of}
 
-one-if-below : (b : Bool) → oneIf b < 2
+pub one-if-below : (b : Bool) → oneIf b < 2
 unfolding oneIf
 one-if-below true = omega arith
 one-if-below false = omega arith

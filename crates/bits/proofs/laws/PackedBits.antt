@@ -18,6 +18,10 @@ rest-within k w h = omega (arith, mul-le-mul-left (k % 8) h)
 pub eights-and-rest : (k w : ℕ) → k * w ≡ k / 8 * w * 8 + k % 8 * w
 eights-and-rest k w = let parts : k * w ≡ (k / 8 * 8 + k % 8) * w = ap (λ (n : ℕ). n * w) (omega arith) in omega arith
 
+-- the bytes that n numbers take
+pub bytes-of-numbers : (n w : ℕ) → n / 8 * w + (n % 8 * w + 7) / 8 ≡ (n * w + 7) / 8
+bytes-of-numbers n w = omega (arith, eights-and-rest n w)
+
 -- bit j of number k
 pub bit-by-place : (bytes : List ℕ) (w k j : ℕ) → bit (getD bytes (k / 8 * w + (k % 8 * w + j) / 8) 0) ((k % 8 * w + j) % 8) ≡ byteBit bytes (k * w + j)
 unfolding byteBit
