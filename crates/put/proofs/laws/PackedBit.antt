@@ -44,9 +44,6 @@ module _ (w j b : ℕ) (pos : 0 < w) where
   inside-within = div-le-self (8 * (j % w) + b) w
 
   module _ (numbers : List ℕ) (n : ℕ) where
-    bitHere : Bool
-    bitHere = packedBit (λ k. getD numbers k 0) w (8 * j + b)
-
     -- of a number that isn't there
     pub bit-past : length numbers / 8 < j / w → 0 ≡ oneIf (ltb (8 * j + b) (n * w) && packedBit (λ k. getD numbers k 0) w (8 * j + b))
     unfolding oneIf

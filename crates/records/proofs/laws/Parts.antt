@@ -1,17 +1,19 @@
 -- The code's answer for the shape of a certificate names its tables as parts of it. Assumes nothing.
 use Prim.Native.Nat.{ℕ, _+_, _-_, _≤_}
 use native.Mathlib.Omega.{arith}
+use mathlib.Core.Bool.{true}
 use mathlib.Core.List.{List}
 use mathlib.Core.Option.{Option, none, some}
 use mathlib.Core.Path.{_≡_, refl, sym, ap, ap₂, _∙_, subst₂, subst₃}
 use lib.ListN.{length, take, drop, length-drop}
 use lib.Seq.{drop-drop}
+use Rattle.below.specs.Among.{member}
 use Rattle.records.specs.Record.{whole, split, circuitKind, regionKind, attackKind, headLength}
 use Rattle.records.specs.Shape.{shapeOf, part, Within}
 use Rattle.records.specs.Tables.{Tables, replies, attacks, tablesOf}
 use Rattle.records.specs.declared.Shape.the-variants.{Replies, Attacks, Other}
 use Rattle.records.proofs.laws.Record.{whole-is}
-use Rattle.records.proofs.laws.Tables.{First, Second, withRegion, withAttacks, tables-first}
+use Rattle.records.proofs.laws.Tables.{First, Second, withRegion, withAttacks, tables-first, kind-taken}
 
 -- contents of a record that starts at a place are a part of the whole, and so is what is behind
 record Placed (bytes contents rest : List ℕ) (at : ℕ) : Type 0 where
@@ -76,9 +78,11 @@ module _ (accepted certificate : List ℕ) where
           subst₃ RepliesLie first middle last (record { circuit-lies = one .contents-are; region-lies = two .contents-are; table-lies = three .contents-are; within = three .within })
 
 -- where the parts of a reply certificate lie, by their ends
-pub record ReplyParts (accepted certificate : List ℕ) (circuitEnd region regionEnd table tableEnd : ℕ) : Type 0 where
-  pub kind : ℕ
-  pub tables : tablesOf accepted certificate ≡ some (replies (part headLength circuitEnd certificate) (part region regionEnd certificate) kind (part table tableEnd certificate))
+pub record ReplyParts (accepted certificate : List ℕ) (circuitEnd region regionEnd table tableEnd kind : ℕ) : Type 0 where
+  pub tables :
+      tablesOf accepted certificate
+      ≡ some (replies (part headLength circuitEnd certificate) (part region regionEnd certificate) kind (part table tableEnd certificate))
+  pub taken : member kind accepted ≡ true
   pub circuitPart : Within certificate headLength circuitEnd
   pub regionPart : Within certificate region regionEnd
   pub tablePart : Within certificate table tableEnd
@@ -126,13 +130,20 @@ module _ (accepted certificate : List ℕ) where
       by (some (replies circuit region kind bytes)) f e = absurd (let z : _≡_ {A = ℕ} 0 1 = cc in omega arith)
       by (some (attacks circuit bytes)) f e = lies circuit bytes f e
 
-  pub reply-parts : (circuitEnd region regionEnd table tableEnd : ℕ) → Replies circuitEnd region regionEnd table tableEnd ≡ shapeOf (tablesOf accepted certificate) → ReplyParts accepted certificate circuitEnd region regionEnd table tableEnd
+  pub reply-parts :
+      (circuitEnd region regionEnd table tableEnd kind : ℕ)
+      → Replies circuitEnd region regionEnd table tableEnd kind ≡ shapeOf (tablesOf accepted certificate)
+      → ReplyParts accepted certificate circuitEnd region regionEnd table tableEnd kind
   unfolding shapeOf
-  reply-parts circuitEnd region regionEnd table tableEnd e = by (tablesOf accepted certificate) refl e
+  reply-parts circuitEnd region regionEnd table tableEnd kind e = by (tablesOf accepted certificate) refl e
     where
-      lies : (circuit states : List ℕ) (kind : ℕ) (bytes : List ℕ) → tablesOf accepted certificate ≡ some (replies circuit states kind bytes) → Replies circuitEnd region regionEnd table tableEnd ≡ shapeOf (some (replies circuit states kind bytes)) → ReplyParts accepted certificate circuitEnd region regionEnd table tableEnd
-      lies circuit states kind bytes f e =
-          let there = replies-lie accepted certificate circuit states kind bytes (tables-first accepted certificate (replies circuit states kind bytes) f) in
+      lies :
+          (circuit states : List ℕ) (sort : ℕ) (bytes : List ℕ) → tablesOf accepted certificate ≡ some (replies circuit states sort bytes)
+          → Replies circuitEnd region regionEnd table tableEnd kind ≡ shapeOf (some (replies circuit states sort bytes))
+          → ReplyParts accepted certificate circuitEnd region regionEnd table tableEnd kind
+      lies circuit states sort bytes f e =
+          let same : sort ≡ kind = cc in
+          let there = replies-lie accepted certificate circuit states sort bytes (tables-first accepted certificate (replies circuit states sort bytes) f) in
           let ends : headLength + length circuit ≡ circuitEnd = cc in
           let begins : headLength + length circuit + headLength ≡ region = cc in
           let behind : headLength + length circuit + headLength + length states ≡ regionEnd = cc in
@@ -142,8 +153,8 @@ module _ (accepted certificate : List ℕ) where
           let middle : states ≡ part region regionEnd certificate = there .region-lies ∙ ap₂ (λ (n m : ℕ). part n m certificate) begins behind in
           let last : bytes ≡ part table tableEnd certificate = there .table-lies ∙ ap₂ (λ (n m : ℕ). part n m certificate) starts over in
           record {
-            kind = kind;
-            tables = f ∙ (λ i. some (replies (first i) (middle i) kind (last i)));
+            tables = f ∙ (λ i. some (replies (first i) (middle i) (same i) (last i)));
+            taken = ap (λ (k : ℕ). member k accepted) (sym same) ∙ kind-taken accepted certificate circuit states sort bytes f;
             circuitPart = record { ordered = omega arith; inside = omega (arith, there .within) };
             regionPart = record { ordered = omega arith; inside = omega (arith, there .within) };
             tablePart = record { ordered = omega arith; inside = omega (arith, there .within) };
@@ -151,7 +162,9 @@ module _ (accepted certificate : List ℕ) where
             tableAt = omega arith;
           }
 
-      by : (o : Option Tables) → tablesOf accepted certificate ≡ o → Replies circuitEnd region regionEnd table tableEnd ≡ shapeOf o → ReplyParts accepted certificate circuitEnd region regionEnd table tableEnd
+      by :
+          (o : Option Tables) → tablesOf accepted certificate ≡ o → Replies circuitEnd region regionEnd table tableEnd kind ≡ shapeOf o
+          → ReplyParts accepted certificate circuitEnd region regionEnd table tableEnd kind
       by none f e = absurd (let z : _≡_ {A = ℕ} 0 1 = cc in omega arith)
       by (some (attacks circuit bytes)) f e = absurd (let z : _≡_ {A = ℕ} 0 1 = cc in omega arith)
-      by (some (replies circuit states kind bytes)) f e = lies circuit states kind bytes f e
+      by (some (replies circuit states sort bytes)) f e = lies circuit states sort bytes f e

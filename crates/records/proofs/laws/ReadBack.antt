@@ -22,8 +22,9 @@ use Rattle.bits.proofs.laws.BitBytes.{bit-is, no-unused-bit}
 use Rattle.bits.proofs.laws.Digits.{sum-digits}
 use Rattle.records.specs.AttackTable.{attackBytes, storedRank, storedAttack}
 use Rattle.records.specs.RegionBits.{regionBytes, regionLength, holdsState, unusedBitSet}
-use Rattle.records.specs.ReplyBytes.{replyBytes, replyLength, storedReply}
+use Rattle.records.specs.ReplyBytes.{replyBytes, byteReply}
 use Rattle.records.proofs.laws.Lengths.{length-region}
+use Rattle.records.proofs.laws.ReplyBytes.{byte-reads}
 use Rattle.records.proofs.laws.Rows.{rows-in-turn, length-row, row-at}
 
 module _ (set : ℕ → Bool) (L : ℕ) where
@@ -35,12 +36,8 @@ module _ (set : ℕ → Bool) (L : ℕ) where
   unfolding unusedBitSet regionBytes
   region-unused = no-unused-bit set (2 ^ L)
 
-pub reply-back : (replies : ℕ → ℕ → ℕ) (L U s r : ℕ) → s < 2 ^ L → r < 2 ^ U → storedReply (replyBytes replies L U) L U s r ≡ replies s r
-unfolding storedReply replyBytes replyLength
-reply-back replies L U s r h l =
-    ap₂ (λ (n m : ℕ). getD (replyBytes replies L U) (n * 2 ^ U + m) 0) (mod-eq-of-lt h) (mod-eq-of-lt l)
-    ∙ getD-table (λ i. replies (i / 2 ^ U) (i % 2 ^ U)) (2 ^ (L + U)) (s * 2 ^ U + r) 0 (omega (arith, pow-add 2 L U, digits-lt {q = s} {m = 2 ^ L} {r = r} {c = 2 ^ U} h l))
-    ∙ ap₂ replies (digits-div s l) (digits-mod s l)
+pub reply-back : (replies : ℕ → ℕ → ℕ) (L U s r : ℕ) → s < 2 ^ L → r < 2 ^ U → byteReply (replyBytes replies L U) L U s r ≡ replies s r
+reply-back replies L U s r h l = byte-reads L U s r replies ∙ ap₂ replies (mod-eq-of-lt h) (mod-eq-of-lt l)
 
 module _ (ranks attacks : ℕ → ℕ) (L s : ℕ) (state : s < 2 ^ L) where
   row : ℕ → List ℕ

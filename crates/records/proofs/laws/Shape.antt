@@ -1,18 +1,18 @@
 -- The shape of a certificate, record by record: what each test of the code decides. Assumes nothing.
 use Prim.Native.Nat.{ℕ, _+_, _-_, _≤_}
 use native.Mathlib.Omega.{arith}
-use mathlib.Core.Bool.{Bool, true, false, _&&_}
-use mathlib.Core.List.{List, [], _∷_}
+use mathlib.Core.Bool.{Bool, true, false, _&&_, _||_}
+use mathlib.Core.List.{List}
 use mathlib.Core.Option.{none, some}
-use mathlib.Core.Path.{_≡_, refl}
+use mathlib.Core.Path.{_≡_, refl, sym}
 use borrow.Author.Tests.{eq-eqb, ne-eqb}
 use lib.Dec.{eqb}
 use lib.ListN.{length, drop, length-drop}
 use lib.Seq.{length-take-le}
 use Rattle.below.specs.Among.{among, member}
-use Rattle.records.specs.Record.{whole, split, circuitKind, regionKind, replyKind, attackKind, headLength}
+use Rattle.records.specs.Record.{whole, split, circuitKind, regionKind, replyKind, attackKind, packedKind, headLength}
 use Rattle.records.specs.Shape.{shapeOf, part}
-use Rattle.records.specs.Tables.{replies, attacks, firstOf, secondOf, thirdOf}
+use Rattle.records.specs.Tables.{acceptedKinds, replies, attacks, firstOf, secondOf, thirdOf}
 use Rattle.records.specs.declared.Shape.the-variants.{Replies, Attacks}
 
 pub length-part : (start end : ℕ) (bytes : List ℕ) → end ≤ length bytes → length (part start end bytes) ≡ end - start
@@ -29,28 +29,34 @@ and-false : (b : Bool) → (b && false) ≡ false
 and-false true = refl
 and-false false = refl
 
--- the kinds of reply record that are taken here
+-- the kinds of reply record that are taken
 module _ (kind : ℕ) where
-  taken-kind : kind ≡ replyKind → member kind (replyKind ∷ []) ≡ true
+  pub kind-replies : kind ≡ replyKind → true ≡ member kind acceptedKinds
   unfolding member among
-  taken-kind e = rw (eq-eqb kind replyKind e)
+  kind-replies e = sym (rw (eq-eqb kind replyKind e))
 
-  other-kind : (kind ≡ replyKind → ⊥) → member kind (replyKind ∷ []) ≡ false
+  pub kind-packed : (kind ≡ replyKind → ⊥) → eqb kind packedKind ≡ member kind acceptedKinds
   unfolding member among
-  other-kind d = rw (ne-eqb kind replyKind d)
+  kind-packed d = sym (rw (ne-eqb kind replyKind d) (or-false (eqb kind packedKind)))
+    where
+      or-false : (b : Bool) → (b || false) ≡ b
+      or-false true = refl
+      or-false false = refl
 
-module _ (circuit region bytes : List ℕ) (kind end : ℕ) (table : List ℕ) where
-  pub third-other : (kind ≡ replyKind → ⊥) → thirdOf (replyKind ∷ []) circuit region (whole kind table (drop end bytes)) ≡ none
+module _ (accepted circuit region bytes : List ℕ) (kind end : ℕ) (table : List ℕ) where
+  pub third-other : member kind accepted ≡ false → thirdOf accepted circuit region (whole kind table (drop end bytes)) ≡ none
   unfolding thirdOf
-  third-other d = rw (other-kind kind d)
+  third-other e = rw e
 
-  pub third-more : end ≤ length bytes → (end ≡ length bytes → ⊥) → thirdOf (replyKind ∷ []) circuit region (whole kind table (drop end bytes)) ≡ none
+  pub third-more : end ≤ length bytes → (end ≡ length bytes → ⊥) → thirdOf accepted circuit region (whole kind table (drop end bytes)) ≡ none
   unfolding thirdOf
-  third-more h d = rw (something-follows bytes end h d, and-false (member kind (replyKind ∷ [])))
+  third-more h d = rw (something-follows bytes end h d, and-false (member kind accepted))
 
-  pub third-is : kind ≡ replyKind → end ≡ length bytes → thirdOf (replyKind ∷ []) circuit region (whole kind table (drop end bytes)) ≡ some (replies circuit region kind table)
+  pub third-is :
+      member kind accepted ≡ true → end ≡ length bytes
+      → thirdOf accepted circuit region (whole kind table (drop end bytes)) ≡ some (replies circuit region kind table)
   unfolding thirdOf
-  third-is e f = rw (taken-kind kind e, nothing-follows bytes end f)
+  third-is e f = rw (e, nothing-follows bytes end f)
 
 module _ (accepted circuit bytes : List ℕ) (kind end : ℕ) (table : List ℕ) where
   pub second-region : kind ≡ regionKind → secondOf accepted circuit (whole kind table (drop end bytes)) ≡ thirdOf accepted circuit table (split (drop end bytes))
@@ -87,11 +93,13 @@ module _ (circuit table : List ℕ) (circuitEnd start end : ℕ) (first : circui
       let ends : end ≡ headLength + length circuit + headLength + length table = omega arith in
       λ i. Attacks (first i) (starts i) (ends i)
 
-  pub shape-replies : (region : List ℕ) (kind begin behind : ℕ) → begin ≡ circuitEnd + headLength → behind ≡ begin + length region → start ≡ behind + headLength → end ≡ start + length table → Replies circuitEnd begin behind start end ≡ shapeOf (some (replies circuit region kind table))
+  pub shape-replies :
+      (region : List ℕ) (kind begin behind : ℕ) → begin ≡ circuitEnd + headLength → behind ≡ begin + length region → start ≡ behind + headLength
+      → end ≡ start + length table → Replies circuitEnd begin behind start end kind ≡ shapeOf (some (replies circuit region kind table))
   unfolding shapeOf
   shape-replies region kind begin behind a b e f =
       let begins : begin ≡ headLength + length circuit + headLength = omega arith in
       let behinds : behind ≡ headLength + length circuit + headLength + length region = omega arith in
       let starts : start ≡ headLength + length circuit + headLength + length region + headLength = omega arith in
       let ends : end ≡ headLength + length circuit + headLength + length region + headLength + length table = omega arith in
-      λ i. Replies (first i) (begins i) (behinds i) (starts i) (ends i)
+      λ i. Replies (first i) (begins i) (behinds i) (starts i) (ends i) kind

@@ -81,3 +81,19 @@ tables-begin accepted certificate t e = by (tables-first accepted certificate t 
 
     by : First accepted certificate t → (rest : List ℕ) × (split certificate ≡ whole circuitKind (circuitPart t) rest)
     by w = (w .rest, inner (w .circuit) (w .rest) (w .is) (w .behind))
+
+-- the reply record is of a kind that is accepted
+pub kind-taken :
+    (accepted certificate circuit region : List ℕ) (kind : ℕ) (table : List ℕ)
+    → tablesOf accepted certificate ≡ some (replies circuit region kind table) → member kind accepted ≡ true
+kind-taken accepted certificate circuit region kind table e = by (tables-first accepted certificate (replies circuit region kind table) e)
+  where
+    inner : (first : List ℕ) (s : Split) → Second accepted first s (replies circuit region kind table) → member kind accepted ≡ true
+    inner first s (withRegion states behind g w) =
+        let gives : replies circuit region kind table ≡ replies first states (w .kind) (w .table) = w .gives in
+        let same : kind ≡ w .kind = cc in
+        ap (λ (k : ℕ). member k accepted) same ∙ w .taken
+    inner first s (withAttacks contents behind g n w) = absurd (let z : _≡_ {A = ℕ} 0 1 = cc in omega arith)
+
+    by : First accepted certificate (replies circuit region kind table) → member kind accepted ≡ true
+    by w = inner (w .circuit) (split (w .rest)) (w .behind)

@@ -1,11 +1,11 @@
 -- `records::tables::behind_circuit` meets its contract: each test is one that `secondOf` makes. Assumes nothing.
 use Prim.Native.Nat.{ℕ}
 use native.Mathlib.Omega.{arith}
-use mathlib.Core.List.{List, [], _∷_}
+use mathlib.Core.List.{List}
 use mathlib.Core.Path.{sym, ap, _∙_}
-use Rattle.records.specs.Record.{Split, replyKind, headLength}
+use Rattle.records.specs.Record.{Split, headLength}
 use Rattle.records.specs.Shape.{shapeOf, part}
-use Rattle.records.specs.Tables.{secondOf}
+use Rattle.records.specs.Tables.{acceptedKinds, secondOf}
 use Rattle.records.proofs.laws.RecordAt.{Found, found-record, found-none}
 use Rattle.records.proofs.laws.Shape.{length-part, second-region, second-other, second-more, second-is, shape-attacks}
 use borrow.Author.Needs.{needs}
@@ -38,7 +38,7 @@ returns : tie.Need-returns
 unfolding shapeOf secondOf
 returns c =
     let a = c .before .before .before .before .args in
-    sym (ap (λ (s : Split). shapeOf (secondOf (replyKind ∷ []) (part headLength (a .circuit) (a .certificate .now)) s)) (found-none (a .certificate .now) (a .circuit) (sym (c .enum-told .given .1) ∙ c .before .before .record-at .ensures)))
+    sym (ap (λ (s : Split). shapeOf (secondOf acceptedKinds (part headLength (a .circuit) (a .certificate .now)) s)) (found-none (a .certificate .now) (a .circuit) (sym (c .enum-told .given .1) ∙ c .before .before .record-at .ensures)))
 
 behind-region-requires : tie.Need-behind-region-requires
 behind-region-requires c κs = let f = found (c .before .before) in (c .before .before .before .before .before .before .pre, (record { ordered = f .ordered; inside = f .within }, f .begins))
@@ -48,24 +48,24 @@ unfolding shapeOf secondOf
 returns-2 c =
     let a = c .before .before .before .before .before .before .before .args in
     let w = c .before .before .before in
-    c .behind-region .ensures ∙ sym (ap (λ (s : Split). shapeOf (secondOf (replyKind ∷ []) (part headLength (a .circuit) (a .certificate .now)) s)) (found w .splits)
-    ∙ ap shapeOf (second-region (replyKind ∷ []) (part headLength (a .circuit) (a .certificate .now)) (a .certificate .now) (kind w) (end w) (contents w) (c .before .if1 .taken)))
+    c .behind-region .ensures ∙ sym (ap (λ (s : Split). shapeOf (secondOf acceptedKinds (part headLength (a .circuit) (a .certificate .now)) s)) (found w .splits)
+    ∙ ap shapeOf (second-region acceptedKinds (part headLength (a .circuit) (a .certificate .now)) (a .certificate .now) (kind w) (end w) (contents w) (c .before .if1 .taken)))
 
 returns-3 : tie.Need-returns-3
 unfolding shapeOf secondOf
 returns-3 c =
     let a = c .before .before .before .before .before .before .before .args in
     let w = c .before .before .before in
-    sym (ap (λ (s : Split). shapeOf (secondOf (replyKind ∷ []) (part headLength (a .circuit) (a .certificate .now)) s)) (found w .splits)
-    ∙ ap shapeOf (second-other (replyKind ∷ []) (part headLength (a .circuit) (a .certificate .now)) (a .certificate .now) (kind w) (end w) (contents w) (c .before .if1 .left) (c .if2 .taken)))
+    sym (ap (λ (s : Split). shapeOf (secondOf acceptedKinds (part headLength (a .circuit) (a .certificate .now)) s)) (found w .splits)
+    ∙ ap shapeOf (second-other acceptedKinds (part headLength (a .circuit) (a .certificate .now)) (a .certificate .now) (kind w) (end w) (contents w) (c .before .if1 .left) (c .if2 .taken)))
 
 returns-4 : tie.Need-returns-4
 unfolding shapeOf secondOf
 returns-4 c =
     let a = c .before .before .before .before .before .before .before .before .args in
     let w = c .before .before .before .before in
-    sym (ap (λ (s : Split). shapeOf (secondOf (replyKind ∷ []) (part headLength (a .circuit) (a .certificate .now)) s)) (found w .splits)
-    ∙ ap shapeOf (second-more (replyKind ∷ []) (part headLength (a .circuit) (a .certificate .now)) (a .certificate .now) (kind w) (end w) (contents w) (c .before .before .if1 .left) (found w .within) (c .if3 .taken)))
+    sym (ap (λ (s : Split). shapeOf (secondOf acceptedKinds (part headLength (a .circuit) (a .certificate .now)) s)) (found w .splits)
+    ∙ ap shapeOf (second-more acceptedKinds (part headLength (a .circuit) (a .certificate .now)) (a .certificate .now) (kind w) (end w) (contents w) (c .before .before .if1 .left) (found w .within) (c .if3 .taken)))
 
 returns-5 : tie.Need-returns-5
 unfolding shapeOf secondOf
@@ -77,8 +77,8 @@ returns-5 c =
     (omega (arith, length-part headLength (a .circuit) (a .certificate .now) (p .inside), p))
     (found w .begins)
     (omega (arith, length-part (w .kind .given .0 .1 .0) (end w) (a .certificate .now) (found w .within), found w))
-    ∙ sym (ap (λ (s : Split). shapeOf (secondOf (replyKind ∷ []) (part headLength (a .circuit) (a .certificate .now)) s)) (found w .splits)
-    ∙ ap shapeOf (second-is (replyKind ∷ []) (part headLength (a .circuit) (a .certificate .now)) (a .certificate .now) (kind w) (end w) (contents w) (c .before .before .if1 .left) (c .before .if2 .left) (c .if3 .left)))
+    ∙ sym (ap (λ (s : Split). shapeOf (secondOf acceptedKinds (part headLength (a .circuit) (a .certificate .now)) s)) (found w .splits)
+    ∙ ap shapeOf (second-is acceptedKinds (part headLength (a .circuit) (a .certificate .now)) (a .certificate .now) (kind w) (end w) (contents w) (c .before .before .if1 .left) (c .before .if2 .left) (c .if3 .left)))
 
 pub behind-circuit-spec : {M : Type 1} → statement M
 behind-circuit-spec =

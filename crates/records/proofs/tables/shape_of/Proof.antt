@@ -1,12 +1,11 @@
 -- `records::tables::shape_of` meets its contract: the first record is tested as `firstOf` does. Assumes nothing.
 use Prim.Native.Nat.{ℕ}
 use native.Mathlib.Omega.{arith}
-use mathlib.Core.List.{[], _∷_}
 use mathlib.Core.Path.{sym, ap, _∙_}
 use lib.ListN.{drop}
-use Rattle.records.specs.Record.{Split, split, replyKind}
+use Rattle.records.specs.Record.{Split, split}
 use Rattle.records.specs.Shape.{shapeOf, part}
-use Rattle.records.specs.Tables.{tablesOf, firstOf, secondOf}
+use Rattle.records.specs.Tables.{acceptedKinds, tablesOf, firstOf, secondOf}
 use Rattle.records.proofs.laws.RecordAt.{Found, found-record, found-none}
 use Rattle.records.proofs.laws.Shape.{first-is, first-other}
 use borrow.Author.Needs.{needs}
@@ -28,13 +27,13 @@ enum-told c = search needs
 
 returns : tie.Need-returns
 unfolding shapeOf tablesOf firstOf
-returns c = sym (ap (λ (s : Split). shapeOf (firstOf (replyKind ∷ []) s)) (found-none (c .before .before .before .before .args .certificate .now) 0 (sym (c .enum-told .given .1) ∙ c .before .before .record-at .ensures)))
+returns c = sym (ap (λ (s : Split). shapeOf (firstOf acceptedKinds s)) (found-none (c .before .before .before .before .args .certificate .now) 0 (sym (c .enum-told .given .1) ∙ c .before .before .record-at .ensures)))
 
 returns-2 : tie.Need-returns-2
 unfolding shapeOf tablesOf firstOf
 returns-2 c =
     let w = c .before .before in
-    sym (ap (λ (s : Split). shapeOf (firstOf (replyKind ∷ []) s)) (found w .splits) ∙ ap shapeOf (first-other (replyKind ∷ []) _ _ (w .kind .given .0 .0) (c .if1 .taken)))
+    sym (ap (λ (s : Split). shapeOf (firstOf acceptedKinds s)) (found w .splits) ∙ ap shapeOf (first-other acceptedKinds _ _ (w .kind .given .0 .0) (c .if1 .taken)))
 
 behind-circuit-requires : tie.Need-behind-circuit-requires
 behind-circuit-requires c κs = let f = found (c .before .before) in record { ordered = omega arith; inside = f .within }
@@ -45,8 +44,8 @@ returns-3 c =
     let w = c .before .before .before in
     let a = c .before .before .before .before .before .before .before .args in
     c .behind-circuit .ensures
-    ∙ ap (λ (n : ℕ). shapeOf (secondOf (replyKind ∷ []) (part n (w .kind .given .0 .1 .1 .0) (a .certificate .now)) (split (drop (w .kind .given .0 .1 .1 .0) (a .certificate .now))))) (sym (found w .begins))
-    ∙ sym (ap (λ (s : Split). shapeOf (firstOf (replyKind ∷ []) s)) (found w .splits) ∙ ap shapeOf (first-is (replyKind ∷ []) _ _ (w .kind .given .0 .0) (c .before .if1 .left)))
+    ∙ ap (λ (n : ℕ). shapeOf (secondOf acceptedKinds (part n (w .kind .given .0 .1 .1 .0) (a .certificate .now)) (split (drop (w .kind .given .0 .1 .1 .0) (a .certificate .now))))) (sym (found w .begins))
+    ∙ sym (ap (λ (s : Split). shapeOf (firstOf acceptedKinds s)) (found w .splits) ∙ ap shapeOf (first-is acceptedKinds _ _ (w .kind .given .0 .0) (c .before .if1 .left)))
 
 pub shape-of-spec : {M : Type 1} → statement M
 shape-of-spec =
