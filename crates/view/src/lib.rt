@@ -6,6 +6,7 @@ ghost use mathlib.Core.Path.{_≡_};
 ghost use lib.ListN.{drop};
 ghost use Rattle.records.specs.RegionBits.{holdsState};
 ghost use Rattle.records.specs.Passed.{replyIn};
+ghost use Rattle.records.specs.ReplyBytes.{byteReply};
 ghost use Rattle.view.specs.View.{viewOf};
 
 pub struct View<'a> {
@@ -32,9 +33,10 @@ impl<'a> View<'a> {
         region_bit(self.certificate, self.region, latches, state)
     }
 
-    // The reply to a reading at a state: the stored one inside the stored region, 0 outside.
+    // The reply to a reading at a state, by a byte table: the stored one inside the stored region, 0 outside.
     pub fn reply(self, latches: usize, readings: usize, state: usize, reading: usize) -> u8
-        ensures { λ r. ⌜ r ≡ replyIn (drop (self .entry .region) (now (self .entry .certificate))) (drop (self .entry .replies) (now (self .entry .certificate))) latches readings state reading ⌝ }
+        ensures { λ r. ⌜ r ≡ replyIn (drop (self .entry .region) (now (self .entry .certificate))) latches
+            (byteReply (drop (self .entry .replies) (now (self .entry .certificate))) latches readings) state reading ⌝ }
     {
         reply(
             self.certificate,

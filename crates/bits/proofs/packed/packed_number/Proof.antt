@@ -61,7 +61,11 @@ add-number c =
     let a = c .before .before .before .before .before .args in
     let l = c .before .before .loop in
     let w = c .before .before .before .fewer .result in
-    omega (arith, gathered-fits _ (λ i. byte-bit-below (a .bytes .now) (a .k * w + i)) w (l .j) (l .number) (c .bit-at .result) (l .inv) (taken c) (omega arith))
+    omega (
+      arith,
+      gathered-fits _ (λ i. byte-bit-below (a .bytes .now) (a .k * w + i)) w (l .j) (l .number) (c .bit-at .result) (l .inv) (taken c)
+          (omega arith),
+    )
 
 add-j : tie.Need-add-j Inv-loop μ-loop
 add-j c = search needs
