@@ -44,7 +44,7 @@ impl<'a> View<'a> {
         reply(
             self.certificate,
             self.region,
-            self.replies,
+            self.replies, // one byte each
             latches,
             readings,
             state,
