@@ -1,11 +1,13 @@
 -- The shape of a certificate, record by record: what each test of the code decides. Assumes nothing.
 use Prim.Native.Nat.{ℕ, _+_, _-_, _≤_}
+use native.Mathlib.Decide.{ℕ-discrete}
 use native.Mathlib.Omega.{arith}
 use mathlib.Core.Bool.{Bool, true, false, _&&_, _||_}
 use mathlib.Core.List.{List}
+use mathlib.Core.Logic.{_⊎_, inl, inr}
 use mathlib.Core.Option.{none, some}
-use mathlib.Core.Path.{_≡_, refl, sym}
-use borrow.Author.Tests.{eq-eqb, ne-eqb}
+use mathlib.Core.Path.{_≡_, refl, sym, _∙_}
+use borrow.Author.Tests.{eqb-true, eq-eqb, ne-eqb}
 use lib.Dec.{eqb}
 use lib.ListN.{length, drop, length-drop}
 use lib.Seq.{length-take-le}
@@ -42,6 +44,10 @@ module _ (kind : ℕ) where
       or-false : (b : Bool) → (b || false) ≡ b
       or-false true = refl
       or-false false = refl
+
+-- and no other is
+pub kinds-are : (kind : ℕ) → member kind acceptedKinds ≡ true → (kind ≡ replyKind) ⊎ (kind ≡ packedKind)
+kinds-are kind e = elim (ℕ-discrete kind replyKind) [ yes a ↦ inl a | no d ↦ inr (eqb-true kind packedKind (kind-packed kind d ∙ e)) ]
 
 module _ (accepted circuit region bytes : List ℕ) (kind end : ℕ) (table : List ℕ) where
   pub third-other : member kind accepted ≡ false → thirdOf accepted circuit region (whole kind table (drop end bytes)) ≡ none
