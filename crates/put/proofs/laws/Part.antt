@@ -15,6 +15,8 @@ module _ (buffer : List ℕ) (at k : ℕ) (text : List ℕ) (fits : at + length 
 
   pub put-part : take at buffer ++ ((take (length text) text ++ drop (length text) (take k (drop at buffer))) ++ drop k (drop at buffer)) ≡ sets buffer at text
   put-part =
-      ap (λ (l : List ℕ). take at buffer ++ l) (append-assoc (take (length text) text) (drop (length text) (take k (drop at buffer))) (drop k (drop at buffer)) ∙ ap₂ {C = List ℕ} (λ xs ys. xs ++ ys) (take-length text) rest)
+      ap (λ (l : List ℕ). take at buffer ++ l)
+      (append-assoc (take (length text) text) (drop (length text) (take k (drop at buffer))) (drop k (drop at buffer))
+      ∙ ap₂ {C = List ℕ} (λ xs ys. xs ++ ys) (take-length text) rest)
       ∙ sym (append-assoc (take at buffer) text (drop (at + length text) buffer))
       ∙ sym (sets-eq text buffer at fits)

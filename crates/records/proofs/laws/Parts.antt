@@ -21,7 +21,9 @@ record Placed (bytes contents rest : List ℕ) (at : ℕ) : Type 0 where
   rest-is : rest ≡ drop (at + headLength + length contents) bytes
   within : at + headLength + length contents ≤ length bytes
 
-placed : (bytes : List ℕ) (at kind : ℕ) (contents rest : List ℕ) → at ≤ length bytes → split (drop at bytes) ≡ whole kind contents rest → Placed bytes contents rest at
+placed :
+    (bytes : List ℕ) (at kind : ℕ) (contents rest : List ℕ) → at ≤ length bytes → split (drop at bytes) ≡ whole kind contents rest
+    → Placed bytes contents rest at
 placed bytes at kind contents rest h e =
     let is = whole-is (drop at bytes) kind contents rest e in
     let long : length contents ≡ at + headLength + length contents - (at + headLength) = omega arith in
@@ -46,7 +48,9 @@ module _ (accepted certificate : List ℕ) where
       one = placed certificate 0 circuitKind (w .circuit) (w .rest) (omega arith) (w .is)
 
       by : Second accepted (w .circuit) (split (w .rest)) (attacks circuit table) → AttacksLie circuit table
-      by (withRegion region rest g v) = absurd (let z : attacks circuit table ≡ replies (w .circuit) region (v .kind) (v .table) = v .gives in let y : _≡_ {A = ℕ} 0 1 = cc in omega arith)
+      by (withRegion region rest g v) =
+          let z : attacks circuit table ≡ replies (w .circuit) region (v .kind) (v .table) = v .gives in
+          absurd (let y : _≡_ {A = ℕ} 0 1 = cc in omega arith)
       by (withAttacks contents rest g n v) =
           let two = placed certificate (headLength + length (w .circuit)) attackKind contents rest (one .within) (ap split (sym (one .rest-is)) ∙ g) in
           let first : w .circuit ≡ circuit = cc in
@@ -57,10 +61,13 @@ module _ (accepted certificate : List ℕ) where
   record RepliesLie (circuit region table : List ℕ) : Type 0 where
     circuit-lies : circuit ≡ part headLength (headLength + length circuit) certificate
     region-lies : region ≡ part (headLength + length circuit + headLength) (headLength + length circuit + headLength + length region) certificate
-    table-lies : table ≡ part (headLength + length circuit + headLength + length region + headLength) (headLength + length circuit + headLength + length region + headLength + length table) certificate
+    table-lies :
+        table ≡ part (headLength + length circuit + headLength + length region + headLength)
+        (headLength + length circuit + headLength + length region + headLength + length table) certificate
     within : headLength + length circuit + headLength + length region + headLength + length table ≤ length certificate
 
-  replies-lie : (circuit region : List ℕ) (kind : ℕ) (table : List ℕ) → First accepted certificate (replies circuit region kind table) → RepliesLie circuit region table
+  replies-lie :
+      (circuit region : List ℕ) (kind : ℕ) (table : List ℕ) → First accepted certificate (replies circuit region kind table) → RepliesLie circuit region table
   replies-lie circuit region kind table w = by (w .behind)
     where
       one : Placed certificate (w .circuit) (w .rest) 0
@@ -70,12 +77,14 @@ module _ (accepted certificate : List ℕ) where
       by (withAttacks contents rest g n v) = absurd (let y : _≡_ {A = ℕ} 0 1 = cc in omega arith)
       by (withRegion contents rest g v) =
           let two = placed certificate (headLength + length (w .circuit)) regionKind contents rest (one .within) (ap split (sym (one .rest-is)) ∙ g) in
-          let three = placed certificate (headLength + length (w .circuit) + headLength + length contents) (v .kind) (v .table) (v .rest) (two .within) (ap split (sym (two .rest-is)) ∙ v .is) in
+          let at = headLength + length (w .circuit) + headLength + length contents in
+          let three = placed certificate at (v .kind) (v .table) (v .rest) (two .within) (ap split (sym (two .rest-is)) ∙ v .is) in
           let same : replies circuit region kind table ≡ replies (w .circuit) contents (v .kind) (v .table) = v .gives in
           let first : w .circuit ≡ circuit = cc in
           let middle : contents ≡ region = cc in
           let last : v .table ≡ table = cc in
-          subst₃ RepliesLie first middle last (record { circuit-lies = one .contents-are; region-lies = two .contents-are; table-lies = three .contents-are; within = three .within })
+          subst₃ RepliesLie first middle last
+          (record { circuit-lies = one .contents-are; region-lies = two .contents-are; table-lies = three .contents-are; within = three .within })
 
 -- where the parts of a reply certificate lie, by their ends
 pub record ReplyParts (accepted certificate : List ℕ) (circuitEnd region regionEnd table tableEnd kind : ℕ) : Type 0 where
@@ -106,11 +115,15 @@ module _ (accepted certificate : List ℕ) where
       by (some (replies circuit region kind table)) f e = absurd (let z : _≡_ {A = ℕ} 0 1 = cc in omega arith)
       by (some (attacks circuit table)) f e = absurd (let z : _≡_ {A = ℕ} 0 1 = cc in omega arith)
 
-  pub attack-parts : (circuitEnd table tableEnd : ℕ) → Attacks circuitEnd table tableEnd ≡ shapeOf (tablesOf accepted certificate) → AttackParts accepted certificate circuitEnd table tableEnd
+  pub attack-parts :
+      (circuitEnd table tableEnd : ℕ) → Attacks circuitEnd table tableEnd ≡ shapeOf (tablesOf accepted certificate)
+      → AttackParts accepted certificate circuitEnd table tableEnd
   unfolding shapeOf
   attack-parts circuitEnd table tableEnd e = by (tablesOf accepted certificate) refl e
     where
-      lies : (circuit bytes : List ℕ) → tablesOf accepted certificate ≡ some (attacks circuit bytes) → Attacks circuitEnd table tableEnd ≡ shapeOf (some (attacks circuit bytes)) → AttackParts accepted certificate circuitEnd table tableEnd
+      lies :
+          (circuit bytes : List ℕ) → tablesOf accepted certificate ≡ some (attacks circuit bytes)
+          → Attacks circuitEnd table tableEnd ≡ shapeOf (some (attacks circuit bytes)) → AttackParts accepted certificate circuitEnd table tableEnd
       lies circuit bytes f e =
           let there = attacks-lie accepted certificate circuit bytes (tables-first accepted certificate (attacks circuit bytes) f) in
           let ends : headLength + length circuit ≡ circuitEnd = cc in
@@ -125,7 +138,9 @@ module _ (accepted certificate : List ℕ) where
             tableAt = omega arith;
           }
 
-      by : (o : Option Tables) → tablesOf accepted certificate ≡ o → Attacks circuitEnd table tableEnd ≡ shapeOf o → AttackParts accepted certificate circuitEnd table tableEnd
+      by :
+          (o : Option Tables) → tablesOf accepted certificate ≡ o → Attacks circuitEnd table tableEnd ≡ shapeOf o
+          → AttackParts accepted certificate circuitEnd table tableEnd
       by none f e = absurd (let z : _≡_ {A = ℕ} 0 1 = cc in omega arith)
       by (some (replies circuit region kind bytes)) f e = absurd (let z : _≡_ {A = ℕ} 0 1 = cc in omega arith)
       by (some (attacks circuit bytes)) f e = lies circuit bytes f e

@@ -66,7 +66,9 @@ module _ (bytes : List ℕ) (n L s : ℕ) where
   module _ (e : n ≡ attackLength L) where
     pub ranks-in-front : storedRank (take n bytes) L s ≡ storedRank bytes L s
     unfolding storedRank attackLength
-    ranks-in-front = ap₂ (λ (a b : ℕ). sum 256 (a ∷ b ∷ [])) (getD-take n bytes (3 * (s % 2 ^ L)) 0 (omega (arith, state-below))) (getD-take n bytes (3 * (s % 2 ^ L) + 1) 0 (omega (arith, state-below)))
+    ranks-in-front =
+        ap₂ (λ (a b : ℕ). sum 256 (a ∷ b ∷ [])) (getD-take n bytes (3 * (s % 2 ^ L)) 0 (omega (arith, state-below)))
+        (getD-take n bytes (3 * (s % 2 ^ L) + 1) 0 (omega (arith, state-below)))
 
     pub attacks-in-front : storedAttack (take n bytes) L s ≡ storedAttack bytes L s
     unfolding storedAttack attackLength

@@ -52,7 +52,8 @@ module _ (ranks attacks : ℕ → ℕ) (L s : ℕ) (state : s < 2 ^ L) where
   pub rank-back : ranks s < 65536 → storedRank (attackBytes ranks attacks L) L s ≡ ranks s
   unfolding storedRank row digits
   rank-back h =
-      ap₂ (λ (a b : ℕ). sum 256 (a ∷ b ∷ [])) (ap (λ (n : ℕ). getD (attackBytes ranks attacks L) n 0) (omega arith) ∙ in-table 0 (omega arith)) (in-table 1 (omega arith))
+      ap₂ (λ (a b : ℕ). sum 256 (a ∷ b ∷ [])) (ap (λ (n : ℕ). getD (attackBytes ranks attacks L) n 0) (omega arith) ∙ in-table 0 (omega arith))
+      (in-table 1 (omega arith))
       ∙ sum-digits 256 2 (ranks s) (omega arith)
       ∙ mod-eq-of-lt h
 

@@ -65,7 +65,8 @@ module _ (accepted circuit region bytes : List ℕ) (kind end : ℕ) (table : Li
   third-is e f = rw (e, nothing-follows bytes end f)
 
 module _ (accepted circuit bytes : List ℕ) (kind end : ℕ) (table : List ℕ) where
-  pub second-region : kind ≡ regionKind → secondOf accepted circuit (whole kind table (drop end bytes)) ≡ thirdOf accepted circuit table (split (drop end bytes))
+  pub second-region :
+      kind ≡ regionKind → secondOf accepted circuit (whole kind table (drop end bytes)) ≡ thirdOf accepted circuit table (split (drop end bytes))
   unfolding secondOf
   second-region e = rw (eq-eqb kind regionKind e)
 
@@ -73,11 +74,14 @@ module _ (accepted circuit bytes : List ℕ) (kind end : ℕ) (table : List ℕ)
   unfolding secondOf
   second-other d f = rw (ne-eqb kind regionKind d, ne-eqb kind attackKind f)
 
-  pub second-more : (kind ≡ regionKind → ⊥) → end ≤ length bytes → (end ≡ length bytes → ⊥) → secondOf accepted circuit (whole kind table (drop end bytes)) ≡ none
+  pub second-more :
+      (kind ≡ regionKind → ⊥) → end ≤ length bytes → (end ≡ length bytes → ⊥) → secondOf accepted circuit (whole kind table (drop end bytes)) ≡ none
   unfolding secondOf
   second-more d h f = rw (ne-eqb kind regionKind d, something-follows bytes end h f, and-false (eqb kind attackKind))
 
-  pub second-is : (kind ≡ regionKind → ⊥) → kind ≡ attackKind → end ≡ length bytes → secondOf accepted circuit (whole kind table (drop end bytes)) ≡ some (attacks circuit table)
+  pub second-is :
+      (kind ≡ regionKind → ⊥) → kind ≡ attackKind → end ≡ length bytes
+      → secondOf accepted circuit (whole kind table (drop end bytes)) ≡ some (attacks circuit table)
   unfolding secondOf
   second-is d e f = rw (ne-eqb kind regionKind d, eq-eqb kind attackKind e, nothing-follows bytes end f)
 

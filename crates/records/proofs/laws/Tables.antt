@@ -28,7 +28,9 @@ unfolding thirdOf
 third accepted circuit region cut t e = absurd (let z : _≡_ {A = ℕ} 0 1 = cc in omega arith)
 third accepted circuit region (whole kind table rest) t e = by (member kind accepted && eqb (length rest) 0) refl e
   where
-    by : (b : Bool) → (member kind accepted && eqb (length rest) 0) ≡ b → cond b (some (replies circuit region kind table)) none ≡ some t → Third accepted circuit region (whole kind table rest) t
+    by :
+        (b : Bool) → (member kind accepted && eqb (length rest) 0) ≡ b → cond b (some (replies circuit region kind table)) none ≡ some t
+        → Third accepted circuit region (whole kind table rest) t
     by true f e =
         let (fine, last) = both-true (member kind accepted) (eqb (length rest) 0) f in
         record { kind = kind; table = table; rest = rest; is = refl; taken = fine; ends = eqb-true _ _ last; gives = cc }
@@ -44,7 +46,10 @@ unfolding secondOf
 second accepted circuit cut t e = absurd (let z : _≡_ {A = ℕ} 0 1 = cc in omega arith)
 second accepted circuit (whole kind table rest) t e = by (eqb kind regionKind) (eqb kind attackKind && eqb (length rest) 0) refl refl e
   where
-    by : (a b : Bool) → eqb kind regionKind ≡ a → (eqb kind attackKind && eqb (length rest) 0) ≡ b → cond a (thirdOf accepted circuit table (split rest)) (cond b (some (attacks circuit table)) none) ≡ some t → Second accepted circuit (whole kind table rest) t
+    by :
+        (a b : Bool) → eqb kind regionKind ≡ a → (eqb kind attackKind && eqb (length rest) 0) ≡ b
+        → cond a (thirdOf accepted circuit table (split rest)) (cond b (some (attacks circuit table)) none) ≡ some t
+        → Second accepted circuit (whole kind table rest) t
     by true b f g e = withRegion table rest (ap (λ (k : ℕ). whole k table rest) (eqb-true _ _ f)) (third accepted circuit table (split rest) t e)
     by false true f g e =
         let (sort, last) = both-true (eqb kind attackKind) (eqb (length rest) 0) g in
@@ -62,8 +67,16 @@ pub tables-first : (accepted certificate : List ℕ) (t : Tables) → tablesOf a
 unfolding tablesOf firstOf
 tables-first accepted certificate t e = by (split certificate) refl e
   where
-    kinds : (kind : ℕ) (circuit rest : List ℕ) → split certificate ≡ whole kind circuit rest → (b : Bool) → eqb kind circuitKind ≡ b → cond b (secondOf accepted circuit (split rest)) none ≡ some t → First accepted certificate t
-    kinds kind circuit rest f true g e = record { circuit = circuit; rest = rest; is = f ∙ ap (λ (k : ℕ). whole k circuit rest) (eqb-true _ _ g); behind = second accepted circuit (split rest) t e }
+    kinds :
+        (kind : ℕ) (circuit rest : List ℕ) → split certificate ≡ whole kind circuit rest → (b : Bool) → eqb kind circuitKind ≡ b
+        → cond b (secondOf accepted circuit (split rest)) none ≡ some t → First accepted certificate t
+    kinds kind circuit rest f true g e =
+        record {
+          circuit = circuit;
+          rest = rest;
+          is = f ∙ ap (λ (k : ℕ). whole k circuit rest) (eqb-true _ _ g);
+          behind = second accepted circuit (split rest) t e;
+        }
     kinds kind circuit rest f false g e = absurd (let z : _≡_ {A = ℕ} 0 1 = cc in omega arith)
 
     by : (s : Split) → split certificate ≡ s → firstOf accepted s ≡ some t → First accepted certificate t
@@ -71,11 +84,15 @@ tables-first accepted certificate t e = by (split certificate) refl e
     by (whole kind circuit rest) f e = kinds kind circuit rest f (eqb kind circuitKind) refl e
 
 -- a certificate with tables begins with the record of its circuit part
-pub tables-begin : (accepted certificate : List ℕ) (t : Tables) → tablesOf accepted certificate ≡ some t → (rest : List ℕ) × (split certificate ≡ whole circuitKind (circuitPart t) rest)
+pub tables-begin :
+    (accepted certificate : List ℕ) (t : Tables) → tablesOf accepted certificate ≡ some t
+    → (rest : List ℕ) × (split certificate ≡ whole circuitKind (circuitPart t) rest)
 unfolding circuitPart
 tables-begin accepted certificate t e = by (tables-first accepted certificate t e)
   where
-    inner : (circuit rest : List ℕ) → split certificate ≡ whole circuitKind circuit rest → Second accepted circuit (split rest) t → split certificate ≡ whole circuitKind (circuitPart t) rest
+    inner :
+        (circuit rest : List ℕ) → split certificate ≡ whole circuitKind circuit rest → Second accepted circuit (split rest) t
+        → split certificate ≡ whole circuitKind (circuitPart t) rest
     inner circuit rest f (withRegion region behind g w) = f ∙ ap (λ (u : Tables). whole circuitKind (circuitPart u) rest) (sym (w .gives))
     inner circuit rest f (withAttacks table behind g n w) = f ∙ ap (λ (u : Tables). whole circuitKind (circuitPart u) rest) (sym w)
 

@@ -29,7 +29,9 @@ add-result c = search needs
 
 returns : tie.Need-returns
 unfolding contentsLength
-returns c = let a = c .before .before .before .args in omega (arith, sum-four (a .bytes .now) (a .at) (omega (arith, c .before .before .before .pre)), c .before .two-at .ensures, c .two-at2 .ensures)
+returns c =
+    let a = c .before .before .before .args in
+    omega (arith, sum-four (a .bytes .now) (a .at) (omega (arith, c .before .before .before .pre)), c .before .two-at .ensures, c .two-at2 .ensures)
 
 pub contents-length-spec : {M : Type 1} → statement M
 contents-length-spec =

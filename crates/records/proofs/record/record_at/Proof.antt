@@ -36,7 +36,8 @@ returns-3 : tie.Need-returns-3
 unfolding recordAt
 returns-3 c =
     let a = c .before .before .before .before .before .args in
-    sym (ap (recordAt (a .at)) (split-cut (drop (a .at) (a .bytes .now)) (omega (arith, length-drop (a .at) (a .bytes .now), c .before .contents-length .ensures))))
+    sym (ap (recordAt (a .at))
+    (split-cut (drop (a .at) (a .bytes .now)) (omega (arith, length-drop (a .at) (a .bytes .now), c .before .contents-length .ensures))))
 
 add-two-at : tie.Need-add-two-at
 add-two-at c = search needs

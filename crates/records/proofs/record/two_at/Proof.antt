@@ -27,7 +27,9 @@ add-result : tie.Need-add-result
 add-result c = search needs
 
 returns : tie.Need-returns
-returns c = let a = c .before .before .before .args in omega (arith, sum-two 256 (a .bytes .now) (a .at) (c .before .before .before .pre), c .before .byte-at .ensures, c .byte-at2 .ensures)
+returns c =
+    let a = c .before .before .before .args in
+    omega (arith, sum-two 256 (a .bytes .now) (a .at) (c .before .before .before .pre), c .before .byte-at .ensures, c .byte-at2 .ensures)
 
 pub two-at-spec : {M : Type 1} → statement M
 two-at-spec =

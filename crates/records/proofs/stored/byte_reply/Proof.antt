@@ -25,30 +25,39 @@ returns c =
     let a = c .before .before .before .before .before .args in
     let row = c .before .before .before .low-bits in
     let column = c .before .before .low-bits2 in
-    c .byte-at .ensures ∙ sym (byte-reply-first (a .bytes .now) (a .latches) (a .readings) (a .state) (a .reading) (row .result) (column .result) (row .ensures) (column .ensures) (c .before .if1 .taken))
+    c .byte-at .ensures
+    ∙ sym (byte-reply-first (a .bytes .now) (a .latches) (a .readings) (a .state) (a .reading) (row .result) (column .result) (row .ensures) (column .ensures)
+    (c .before .if1 .taken))
 
 returns-2 : tie.Need-returns-2
 returns-2 c =
     let a = c .before .before .before .before .before .args in
     let row = c .before .before .before .low-bits in
     let column = c .before .before .low-bits2 in
-    sym (byte-reply-far (a .bytes .now) (a .latches) (a .readings) (a .state) (a .reading) (row .result) (column .result) (row .ensures) (column .ensures) (omega arith) (c .if2 .taken) (omega arith))
+    sym (byte-reply-far (a .bytes .now) (a .latches) (a .readings) (a .state) (a .reading) (row .result) (column .result) (row .ensures) (column .ensures)
+    (omega arith) (c .if2 .taken) (omega arith))
 
 shl-width : tie.Need-shl-width
 shl-width c = search needs
 
 div-if3 : tie.Need-div-if3
-div-if3 c = rw (power-by-shift (c .before .before .before .before .before .args .readings) (omega arith)) (pow-pos (c .before .before .before .before .before .args .readings))
+div-if3 c =
+    rw (power-by-shift (c .before .before .before .before .before .args .readings) (omega arith))
+    (pow-pos (c .before .before .before .before .before .args .readings))
 
 returns-3 : tie.Need-returns-3
 returns-3 c =
     let a = c .before .before .before .before .before .before .args in
     let row = c .before .before .before .before .low-bits in
     let column = c .before .before .before .low-bits2 in
-    sym (byte-reply-past (a .bytes .now) (a .latches) (a .readings) (a .state) (a .reading) (row .result) (column .result) (row .ensures) (column .ensures) (div-lt-iff-lt-mul (pow-pos (a .readings)) .0 (rw (power-by-shift (a .readings) (omega arith)) at (c .if3 .taken))))
+    sym (byte-reply-past (a .bytes .now) (a .latches) (a .readings) (a .state) (a .reading) (row .result) (column .result) (row .ensures) (column .ensures)
+    (div-lt-iff-lt-mul (pow-pos (a .readings)) .0 (rw (power-by-shift (a .readings) (omega arith)) at (c .if3 .taken))))
 
 -- where the index is computed it lies at most at the length
-inside : (c : tie.Else3) → c .before .before .before .before .low-bits .result * 2 ^ c .before .before .before .before .before .before .args .readings ≤ length (c .before .before .before .before .before .before .args .bytes .now)
+inside :
+    (c : tie.Else3) →
+    let a = c .before .before .before .before .before .before .args in
+    c .before .before .before .before .low-bits .result * 2 ^ a .readings ≤ length (a .bytes .now)
 inside c =
     let a = c .before .before .before .before .before .before .args in
     le-div-iff-mul-le (pow-pos (a .readings)) .0 (rw (power-by-shift (a .readings) (omega arith)) at (c .if3 .left))
@@ -60,7 +69,13 @@ add-byte-at : tie.Need-add-byte-at
 add-byte-at c =
     let a = c .before .before .before .before .before .before .args in
     rw (power-by-shift (a .readings) (omega arith))
-    (omega (arith, inside c, mod-lt (a .reading) (pow-pos (a .readings)), pow-mono {i = a .readings} {j = 63} (omega arith), c .before .before .before .low-bits2 .ensures))
+    (omega (
+      arith,
+      inside c,
+      mod-lt (a .reading) (pow-pos (a .readings)),
+      pow-mono {i = a .readings} {j = 63} (omega arith),
+      c .before .before .before .low-bits2 .ensures,
+    ))
 
 byte-at-requires-2 : tie.Need-byte-at-requires-2
 byte-at-requires-2 c κs = search needs
@@ -70,7 +85,8 @@ returns-4 c =
     let a = c .before .before .before .before .before .before .before .args in
     let row = c .before .before .before .before .before .low-bits in
     let column = c .before .before .before .before .low-bits2 in
-    c .byte-at2 .ensures ∙ ap (λ (w : ℕ). getD (a .bytes .now) (row .result * w + column .result) 0) (power-by-shift (a .readings) (omega arith)) ∙ sym (byte-reply-at (a .bytes .now) (a .latches) (a .readings) (a .state) (a .reading) (row .result) (column .result) (row .ensures) (column .ensures))
+    c .byte-at2 .ensures ∙ ap (λ (w : ℕ). getD (a .bytes .now) (row .result * w + column .result) 0) (power-by-shift (a .readings) (omega arith))
+    ∙ sym (byte-reply-at (a .bytes .now) (a .latches) (a .readings) (a .state) (a .reading) (row .result) (column .result) (row .ensures) (column .ensures))
 
 pub byte-reply-spec : {M : Type 1} → statement M
 byte-reply-spec =

@@ -13,8 +13,12 @@ use Rattle.records.proofs.tables.behind_circuit.Statement.{statement}
 use Rattle.records.proofs.tables.behind_circuit.Tie as tie
 
 -- the record there, where it is whole
-found : (c : tie.After-kind) → Found (c .before .before .before .before .args .certificate .now) (c .before .before .before .before .args .circuit) (c .kind .given .0 .0) (c .kind .given .0 .1 .0) (c .kind .given .0 .1 .1 .0)
-found c = found-record (c .before .before .before .before .args .certificate .now) (c .before .before .before .before .args .circuit) (c .kind .given .0 .0) (c .kind .given .0 .1 .0) (c .kind .given .0 .1 .1 .0) (sym (c .kind .given .1) ∙ c .before .before .record-at .ensures)
+found :
+    (c : tie.After-kind) → Found (c .before .before .before .before .args .certificate .now) (c .before .before .before .before .args .circuit)
+    (c .kind .given .0 .0) (c .kind .given .0 .1 .0) (c .kind .given .0 .1 .1 .0)
+found c =
+    found-record (c .before .before .before .before .args .certificate .now) (c .before .before .before .before .args .circuit) (c .kind .given .0 .0)
+    (c .kind .given .0 .1 .0) (c .kind .given .0 .1 .1 .0) (sym (c .kind .given .1) ∙ c .before .before .record-at .ensures)
 
 abbrev kind : tie.After-kind → ℕ
 kind c = c .kind .given .0 .0
@@ -38,18 +42,23 @@ returns : tie.Need-returns
 unfolding shapeOf secondOf
 returns c =
     let a = c .before .before .before .before .args in
-    sym (ap (λ (s : Split). shapeOf (secondOf acceptedKinds (part headLength (a .circuit) (a .certificate .now)) s)) (found-none (a .certificate .now) (a .circuit) (sym (c .enum-told .given .1) ∙ c .before .before .record-at .ensures)))
+    sym (ap (λ (s : Split). shapeOf (secondOf acceptedKinds (part headLength (a .circuit) (a .certificate .now)) s))
+    (found-none (a .certificate .now) (a .circuit) (sym (c .enum-told .given .1) ∙ c .before .before .record-at .ensures)))
 
 behind-region-requires : tie.Need-behind-region-requires
-behind-region-requires c κs = let f = found (c .before .before) in (c .before .before .before .before .before .before .pre, (record { ordered = f .ordered; inside = f .within }, f .begins))
+behind-region-requires c κs =
+    let f = found (c .before .before) in
+    (c .before .before .before .before .before .before .pre, (record { ordered = f .ordered; inside = f .within }, f .begins))
 
 returns-2 : tie.Need-returns-2
 unfolding shapeOf secondOf
 returns-2 c =
     let a = c .before .before .before .before .before .before .before .args in
     let w = c .before .before .before in
-    c .behind-region .ensures ∙ sym (ap (λ (s : Split). shapeOf (secondOf acceptedKinds (part headLength (a .circuit) (a .certificate .now)) s)) (found w .splits)
-    ∙ ap shapeOf (second-region acceptedKinds (part headLength (a .circuit) (a .certificate .now)) (a .certificate .now) (kind w) (end w) (contents w) (c .before .if1 .taken)))
+    c .behind-region .ensures
+    ∙ sym (ap (λ (s : Split). shapeOf (secondOf acceptedKinds (part headLength (a .circuit) (a .certificate .now)) s)) (found w .splits)
+    ∙ ap shapeOf (second-region acceptedKinds (part headLength (a .circuit) (a .certificate .now)) (a .certificate .now) (kind w) (end w) (contents w)
+    (c .before .if1 .taken)))
 
 returns-3 : tie.Need-returns-3
 unfolding shapeOf secondOf
@@ -57,7 +66,8 @@ returns-3 c =
     let a = c .before .before .before .before .before .before .before .args in
     let w = c .before .before .before in
     sym (ap (λ (s : Split). shapeOf (secondOf acceptedKinds (part headLength (a .circuit) (a .certificate .now)) s)) (found w .splits)
-    ∙ ap shapeOf (second-other acceptedKinds (part headLength (a .circuit) (a .certificate .now)) (a .certificate .now) (kind w) (end w) (contents w) (c .before .if1 .left) (c .if2 .taken)))
+    ∙ ap shapeOf (second-other acceptedKinds (part headLength (a .circuit) (a .certificate .now)) (a .certificate .now) (kind w) (end w) (contents w)
+    (c .before .if1 .left) (c .if2 .taken)))
 
 returns-4 : tie.Need-returns-4
 unfolding shapeOf secondOf
@@ -65,7 +75,8 @@ returns-4 c =
     let a = c .before .before .before .before .before .before .before .before .args in
     let w = c .before .before .before .before in
     sym (ap (λ (s : Split). shapeOf (secondOf acceptedKinds (part headLength (a .circuit) (a .certificate .now)) s)) (found w .splits)
-    ∙ ap shapeOf (second-more acceptedKinds (part headLength (a .circuit) (a .certificate .now)) (a .certificate .now) (kind w) (end w) (contents w) (c .before .before .if1 .left) (found w .within) (c .if3 .taken)))
+    ∙ ap shapeOf (second-more acceptedKinds (part headLength (a .circuit) (a .certificate .now)) (a .certificate .now) (kind w) (end w) (contents w)
+    (c .before .before .if1 .left) (found w .within) (c .if3 .taken)))
 
 returns-5 : tie.Need-returns-5
 unfolding shapeOf secondOf
@@ -78,7 +89,8 @@ returns-5 c =
     (found w .begins)
     (omega (arith, length-part (w .kind .given .0 .1 .0) (end w) (a .certificate .now) (found w .within), found w))
     ∙ sym (ap (λ (s : Split). shapeOf (secondOf acceptedKinds (part headLength (a .circuit) (a .certificate .now)) s)) (found w .splits)
-    ∙ ap shapeOf (second-is acceptedKinds (part headLength (a .circuit) (a .certificate .now)) (a .certificate .now) (kind w) (end w) (contents w) (c .before .before .if1 .left) (c .before .if2 .left) (c .if3 .left)))
+    ∙ ap shapeOf (second-is acceptedKinds (part headLength (a .circuit) (a .certificate .now)) (a .certificate .now) (kind w) (end w) (contents w)
+    (c .before .before .if1 .left) (c .before .if2 .left) (c .if3 .left)))
 
 pub behind-circuit-spec : {M : Type 1} → statement M
 behind-circuit-spec =

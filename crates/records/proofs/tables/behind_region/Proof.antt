@@ -15,8 +15,12 @@ use Rattle.records.proofs.tables.behind_region.Statement.{statement}
 use Rattle.records.proofs.tables.behind_region.Tie as tie
 
 -- the record there, where it is whole
-found : (c : tie.After-kind) → Found (c .before .before .before .before .args .certificate .now) (c .before .before .before .before .args .behind) (c .kind .given .0 .0) (c .kind .given .0 .1 .0) (c .kind .given .0 .1 .1 .0)
-found c = found-record (c .before .before .before .before .args .certificate .now) (c .before .before .before .before .args .behind) (c .kind .given .0 .0) (c .kind .given .0 .1 .0) (c .kind .given .0 .1 .1 .0) (sym (c .kind .given .1) ∙ c .before .before .record-at .ensures)
+found :
+    (c : tie.After-kind) → Found (c .before .before .before .before .args .certificate .now) (c .before .before .before .before .args .behind)
+    (c .kind .given .0 .0) (c .kind .given .0 .1 .0) (c .kind .given .0 .1 .1 .0)
+found c =
+    found-record (c .before .before .before .before .args .certificate .now) (c .before .before .before .before .args .behind) (c .kind .given .0 .0)
+    (c .kind .given .0 .1 .0) (c .kind .given .0 .1 .1 .0) (sym (c .kind .given .1) ∙ c .before .before .record-at .ensures)
 
 abbrev kind : tie.After-kind → ℕ
 kind c = c .kind .given .0 .0

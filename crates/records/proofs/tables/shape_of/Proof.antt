@@ -13,8 +13,12 @@ use Rattle.records.proofs.tables.shape_of.Statement.{statement}
 use Rattle.records.proofs.tables.shape_of.Tie as tie
 
 -- the record there, where it is whole
-found : (c : tie.After-kind) → Found (c .before .before .before .before .args .certificate .now) 0 (c .kind .given .0 .0) (c .kind .given .0 .1 .0) (c .kind .given .0 .1 .1 .0)
-found c = found-record (c .before .before .before .before .args .certificate .now) 0 (c .kind .given .0 .0) (c .kind .given .0 .1 .0) (c .kind .given .0 .1 .1 .0) (sym (c .kind .given .1) ∙ c .before .before .record-at .ensures)
+found :
+    (c : tie.After-kind) → Found (c .before .before .before .before .args .certificate .now) 0 (c .kind .given .0 .0) (c .kind .given .0 .1 .0)
+    (c .kind .given .0 .1 .1 .0)
+found c =
+    found-record (c .before .before .before .before .args .certificate .now) 0 (c .kind .given .0 .0) (c .kind .given .0 .1 .0) (c .kind .given .0 .1 .1 .0)
+    (sym (c .kind .given .1) ∙ c .before .before .record-at .ensures)
 
 record-at-requires : tie.Need-record-at-requires
 record-at-requires c κs = search needs
@@ -27,13 +31,16 @@ enum-told c = search needs
 
 returns : tie.Need-returns
 unfolding shapeOf tablesOf firstOf
-returns c = sym (ap (λ (s : Split). shapeOf (firstOf acceptedKinds s)) (found-none (c .before .before .before .before .args .certificate .now) 0 (sym (c .enum-told .given .1) ∙ c .before .before .record-at .ensures)))
+returns c =
+    sym (ap (λ (s : Split). shapeOf (firstOf acceptedKinds s))
+    (found-none (c .before .before .before .before .args .certificate .now) 0 (sym (c .enum-told .given .1) ∙ c .before .before .record-at .ensures)))
 
 returns-2 : tie.Need-returns-2
 unfolding shapeOf tablesOf firstOf
 returns-2 c =
     let w = c .before .before in
-    sym (ap (λ (s : Split). shapeOf (firstOf acceptedKinds s)) (found w .splits) ∙ ap shapeOf (first-other acceptedKinds _ _ (w .kind .given .0 .0) (c .if1 .taken)))
+    sym (ap (λ (s : Split). shapeOf (firstOf acceptedKinds s)) (found w .splits)
+    ∙ ap shapeOf (first-other acceptedKinds _ _ (w .kind .given .0 .0) (c .if1 .taken)))
 
 behind-circuit-requires : tie.Need-behind-circuit-requires
 behind-circuit-requires c κs = let f = found (c .before .before) in record { ordered = omega arith; inside = f .within }
@@ -44,8 +51,11 @@ returns-3 c =
     let w = c .before .before .before in
     let a = c .before .before .before .before .before .before .before .args in
     c .behind-circuit .ensures
-    ∙ ap (λ (n : ℕ). shapeOf (secondOf acceptedKinds (part n (w .kind .given .0 .1 .1 .0) (a .certificate .now)) (split (drop (w .kind .given .0 .1 .1 .0) (a .certificate .now))))) (sym (found w .begins))
-    ∙ sym (ap (λ (s : Split). shapeOf (firstOf acceptedKinds s)) (found w .splits) ∙ ap shapeOf (first-is acceptedKinds _ _ (w .kind .given .0 .0) (c .before .if1 .left)))
+    ∙ ap (λ (n : ℕ). shapeOf
+    (secondOf acceptedKinds (part n (w .kind .given .0 .1 .1 .0) (a .certificate .now)) (split (drop (w .kind .given .0 .1 .1 .0) (a .certificate .now)))))
+    (sym (found w .begins))
+    ∙ sym (ap (λ (s : Split). shapeOf (firstOf acceptedKinds s)) (found w .splits)
+    ∙ ap shapeOf (first-is acceptedKinds _ _ (w .kind .given .0 .0) (c .before .if1 .left)))
 
 pub shape-of-spec : {M : Type 1} → statement M
 shape-of-spec =
