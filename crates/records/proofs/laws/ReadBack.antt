@@ -1,29 +1,20 @@
 -- What the tables of a certificate store is read back as it was: the region, the replies, the ranks and the attacks. Assumes nothing.
-use Prim.Native.Nat.{ℕ, _+_, _*_, _/_, _%_, _^_, _<_, _≤_}
-use native.Mathlib.Decide.{decLt}
+use Prim.Native.Nat.{ℕ, _+_, _*_, _%_, _^_, _<_}
 use native.Mathlib.Nat.{mod-eq-of-lt}
 use native.Mathlib.Omega.{arith}
-use mathlib.Core.Bool.{Bool, true, false, _&&_}
+use mathlib.Core.Bool.{Bool, false}
 use mathlib.Core.List.{List, [], _∷_, _++_}
-use mathlib.Core.Path.{_≡_, refl, sym, ap, ap₂, _∙_, subst}
-use lib.Arith.{digits-lt, digits-div, digits-mod}
-use lib.Dec.{eqb, leb, ltb}
-use lib.ListN.{length, getD}
-use lib.Pow.{pow-add}
-use borrow.Author.Tests.{lt-ltb, le-ltb, lt-leb}
-use Rattle.below.specs.Table.{table}
-use Rattle.below.proofs.laws.Least.{none-any}
-use Rattle.below.proofs.laws.Table.{length-table, getD-table}
-use Rattle.bits.specs.Bit.{bit, oneIf}
+use mathlib.Core.Path.{_≡_, sym, ap, ap₂, _∙_}
+use lib.Dec.{eqb}
+use lib.ListN.{getD}
 use Rattle.bits.specs.BitBytes.{bitBytes}
 use Rattle.bits.specs.ByteBit.{byteBit}
 use Rattle.bits.specs.Digits.{digits, sum}
 use Rattle.bits.proofs.laws.BitBytes.{bit-is, no-unused-bit}
 use Rattle.bits.proofs.laws.Digits.{sum-digits}
 use Rattle.records.specs.AttackTable.{attackBytes, storedRank, storedAttack}
-use Rattle.records.specs.RegionBits.{regionBytes, regionLength, holdsState, unusedBitSet}
+use Rattle.records.specs.RegionBits.{regionBytes, holdsState, unusedBitSet}
 use Rattle.records.specs.ReplyBytes.{replyBytes, byteReply}
-use Rattle.records.proofs.laws.Lengths.{length-region}
 use Rattle.records.proofs.laws.ReplyBytes.{byte-reads}
 use Rattle.records.proofs.laws.Rows.{rows-in-turn, length-row, row-at}
 

@@ -1,6 +1,6 @@
 -- What holds of splitting bytes into a record and the rest: a record is read back as it was written, and whole bytes are a record and the
 -- rest. Assumes nothing.
-use Prim.Native.Nat.{ℕ, _+_, _-_, _^_, _<_, _≤_}
+use Prim.Native.Nat.{ℕ, _+_, _^_, _<_, _≤_}
 use native.Mathlib.Omega.{arith}
 use native.Mathlib.Nat.{mod-eq-of-lt}
 use mathlib.Core.Bool.{Bool, true, false, cond, _&&_}

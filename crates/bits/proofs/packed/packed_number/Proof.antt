@@ -1,8 +1,7 @@
 -- `bits::packed::packed_number` meets its contract: bit after bit is gathered, and no place wraps. Assumes nothing.
-use Prim.Native.Nat.{ℕ, _+_, _*_, _-_, _/_, _%_, _^_, _≤_}
-use native.Mathlib.Nat.{mod-eq-of-lt}
+use Prim.Native.Nat.{ℕ, _+_, _*_, _-_}
 use native.Mathlib.Omega.{arith}
-use mathlib.Core.Path.{_≡_, sym, ap, _∙_}
+use mathlib.Core.Path.{_≡_, ap, _∙_}
 use borrow.Author.Needs.{needs}
 use Rattle.bits.specs.ByteBit.{byteBit}
 use Rattle.bits.specs.Packed.{packedNumber}

@@ -1,6 +1,5 @@
 -- `put::packed::put_packed` meets its contract: byte after byte is laid. Assumes nothing.
 use Prim.Native.Nat.{ℕ, _*_, _-_}
-use native.Mathlib.Omega.{arith}
 use mathlib.Core.List.{List}
 use mathlib.Core.Path.{ap, _∙_}
 use borrow.Author.Needs.{needs}

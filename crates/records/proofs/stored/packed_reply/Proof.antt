@@ -1,7 +1,7 @@
 -- `records::stored::packed_reply` meets its contract: within a circuit's limits the index is small. Assumes nothing.
 use Prim.Native.Nat.{ℕ, _+_, _*_, _^_, _<_, min}
 use native.Mathlib.Omega.{arith}
-use mathlib.Core.Path.{_≡_, ap, ap₂, _∙_}
+use mathlib.Core.Path.{ap, ap₂, _∙_}
 use borrow.Author.Needs.{needs}
 use Rattle.bits.specs.Packed.{packedNumber}
 use Rattle.bits.proofs.laws.Shift.{power-by-shift}
