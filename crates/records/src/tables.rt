@@ -1,6 +1,8 @@
-// The shape of a certificate (01, "The certificate"): kinds 1, 2, 3 or kinds 1, 4, back to back, and nothing follows.
+// The shape of a certificate (01, "The certificate"; 02, T-07): kinds 1, 2 and a reply record of kind 3 or 5, or kinds 1, 4, back to back,
+// and nothing follows.
 use crate::ATTACKS;
 use crate::CIRCUIT;
+use crate::PACKED;
 use crate::REGION;
 use crate::REPLIES;
 use crate::RecordAt;
@@ -8,11 +10,11 @@ use crate::Shape;
 use crate::record::record_at;
 ghost use mathlib.Core.Path.{_≡_};
 ghost use Prim.Native.Nat.{_+_};
-ghost use Rattle.records.specs.Record.{headLength};
-ghost use Rattle.records.specs.Shape.{shapeOf};
-ghost use Rattle.records.specs.Tables.{acceptedKinds, tablesOf};
-ghost use Rattle.records.specs.contracts.Behind.{behindCircuit, behindRegion};
-ghost use Rattle.records.specs.contracts.Part.{Within};
+ghost use lib.ListN.{drop};
+ghost use Rattle.below.specs.Among.{member};
+ghost use Rattle.records.specs.Record.{split, headLength};
+ghost use Rattle.records.specs.Shape.{shapeOf, part, Within};
+ghost use Rattle.records.specs.Tables.{acceptedKinds, tablesOf, secondOf, thirdOf};
 
 // Where the contents of a certificate's records start and end.
 pub fn shape_of(certificate: &[u8]) -> Shape
@@ -35,7 +37,8 @@ pub fn shape_of(certificate: &[u8]) -> Shape
 // What stands behind the circuit record, whose contents end at `circuit`.
 fn behind_circuit(certificate: &[u8], circuit: usize) -> Shape
     requires { ⌜ Within (now certificate) headLength circuit ⌝ }
-    ensures { λ r. ⌜ r ≡ behindCircuit (now (certificate .entry)) circuit ⌝ }
+    ensures { λ r. ⌜ r ≡ shapeOf (secondOf acceptedKinds (part headLength circuit (now (certificate .entry)))
+        (split (drop circuit (now (certificate .entry))))) ⌝ }
 {
     let RecordAt::Whole { kind, start, end } = record_at(certificate, circuit) else {
         return Shape::Other;
@@ -61,12 +64,13 @@ fn behind_region(certificate: &[u8], circuit: usize, region: usize, behind: usiz
     requires { ⌜ Within (now certificate) headLength circuit ⌝ }
     requires { ⌜ Within (now certificate) region behind ⌝ }
     requires { ⌜ region ≡ circuit + headLength ⌝ }
-    ensures { λ r. ⌜ r ≡ behindRegion (now (certificate .entry)) circuit region behind ⌝ }
+    ensures { λ r. ⌜ r ≡ shapeOf (thirdOf acceptedKinds (part headLength circuit (now (certificate .entry)))
+        (part region behind (now (certificate .entry))) (split (drop behind (now (certificate .entry))))) ⌝ }
 {
     let RecordAt::Whole { kind, start, end } = record_at(certificate, behind) else {
         return Shape::Other;
     };
-    if kind != REPLIES {
+    if !is_accepted(kind) {
         return Shape::Other;
     }
     if certificate.len() != end {
@@ -78,5 +82,16 @@ fn behind_region(certificate: &[u8], circuit: usize, region: usize, behind: usiz
         region_end: behind,
         table: start,
         table_end: end,
+        kind,
     }
+}
+
+// Whether a kind of reply record is taken.
+fn is_accepted(kind: u16) -> bool
+    ensures { λ r. ⌜ r ≡ member kind acceptedKinds ⌝ }
+{
+    if kind == REPLIES {
+        return true;
+    }
+    kind == PACKED
 }
