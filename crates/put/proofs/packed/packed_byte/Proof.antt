@@ -9,7 +9,7 @@ use lib.ListN.{getD}
 use Rattle.bits.specs.Bit.{oneIf}
 use Rattle.bits.specs.BitBytes.{bitByte}
 use Rattle.bits.specs.Packed.{packedBit}
-use Rattle.bits.proofs.laws.BitBytes.{one-if-below}
+use Rattle.bits.proofs.laws.Bit.{one-if-below}
 use Rattle.bits.proofs.laws.Gathered.{Gathered, gathered-start, gathered-fits, gathered-next, gathered-all}
 use Rattle.put.proofs.packed.packed_byte.Statement.{statement}
 use Rattle.put.proofs.packed.packed_byte.Tie as tie
