@@ -10,11 +10,12 @@ use crate::Shape;
 use crate::record::record_at;
 ghost use mathlib.Core.Path.{_≡_};
 ghost use Prim.Native.Nat.{_+_};
-ghost use lib.ListN.{drop};
 ghost use Rattle.below.specs.Among.{member};
-ghost use Rattle.records.specs.Record.{split, headLength};
-ghost use Rattle.records.specs.Shape.{shapeOf, part, Within};
-ghost use Rattle.records.specs.Tables.{acceptedKinds, tablesOf, secondOf, thirdOf};
+ghost use Rattle.records.specs.Record.{headLength};
+ghost use Rattle.records.specs.Shape.{shapeOf};
+ghost use Rattle.records.specs.Tables.{acceptedKinds, tablesOf};
+ghost use Rattle.records.specs.contracts.Behind.{behindCircuit, behindRegion};
+ghost use Rattle.records.specs.contracts.Part.{Within};
 
 // Where the contents of a certificate's records start and end.
 pub fn shape_of(certificate: &[u8]) -> Shape
@@ -37,8 +38,7 @@ pub fn shape_of(certificate: &[u8]) -> Shape
 // What stands behind the circuit record, whose contents end at `circuit`.
 fn behind_circuit(certificate: &[u8], circuit: usize) -> Shape
     requires { ⌜ Within (now certificate) headLength circuit ⌝ }
-    ensures { λ r. ⌜ r ≡ shapeOf (secondOf acceptedKinds (part headLength circuit (now (certificate .entry)))
-        (split (drop circuit (now (certificate .entry))))) ⌝ }
+    ensures { λ r. ⌜ r ≡ behindCircuit (now (certificate .entry)) circuit ⌝ }
 {
     let RecordAt::Whole { kind, start, end } = record_at(certificate, circuit) else {
         return Shape::Other;
@@ -64,8 +64,7 @@ fn behind_region(certificate: &[u8], circuit: usize, region: usize, behind: usiz
     requires { ⌜ Within (now certificate) headLength circuit ⌝ }
     requires { ⌜ Within (now certificate) region behind ⌝ }
     requires { ⌜ region ≡ circuit + headLength ⌝ }
-    ensures { λ r. ⌜ r ≡ shapeOf (thirdOf acceptedKinds (part headLength circuit (now (certificate .entry)))
-        (part region behind (now (certificate .entry))) (split (drop behind (now (certificate .entry))))) ⌝ }
+    ensures { λ r. ⌜ r ≡ behindRegion (now (certificate .entry)) circuit region behind ⌝ }
 {
     let RecordAt::Whole { kind, start, end } = record_at(certificate, behind) else {
         return Shape::Other;

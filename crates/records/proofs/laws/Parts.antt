@@ -9,8 +9,9 @@ use lib.ListN.{length, take, drop, length-drop}
 use lib.Seq.{drop-drop}
 use Rattle.below.specs.Among.{member}
 use Rattle.records.specs.Record.{whole, split, circuitKind, regionKind, attackKind, headLength}
-use Rattle.records.specs.Shape.{shapeOf, part, Within}
+use Rattle.records.specs.Shape.{shapeOf}
 use Rattle.records.specs.Tables.{Tables, replies, attacks, tablesOf}
+use Rattle.records.specs.contracts.Part.{part, Within}
 use Rattle.records.specs.declared.Shape.the-variants.{Replies, Attacks, Other}
 use Rattle.records.proofs.laws.Record.{whole-is}
 use Rattle.records.proofs.laws.Tables.{First, Second, withRegion, withAttacks, tables-first, kind-taken}

@@ -13,8 +13,9 @@ use lib.ListN.{length, drop, length-drop}
 use lib.Seq.{length-take-le}
 use Rattle.below.specs.Among.{among, member}
 use Rattle.records.specs.Record.{whole, split, circuitKind, regionKind, replyKind, attackKind, packedKind, headLength}
-use Rattle.records.specs.Shape.{shapeOf, part}
+use Rattle.records.specs.Shape.{shapeOf}
 use Rattle.records.specs.Tables.{acceptedKinds, replies, attacks, firstOf, secondOf, thirdOf}
+use Rattle.records.specs.contracts.Part.{part}
 use Rattle.records.specs.declared.Shape.the-variants.{Replies, Attacks}
 
 pub length-part : (start end : ℕ) (bytes : List ℕ) → end ≤ length bytes → length (part start end bytes) ≡ end - start

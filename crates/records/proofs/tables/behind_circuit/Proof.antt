@@ -4,8 +4,9 @@ use native.Mathlib.Omega.{arith}
 use mathlib.Core.List.{List}
 use mathlib.Core.Path.{sym, ap, _∙_}
 use Rattle.records.specs.Record.{Split, headLength}
-use Rattle.records.specs.Shape.{shapeOf, part}
+use Rattle.records.specs.Shape.{shapeOf}
 use Rattle.records.specs.Tables.{acceptedKinds, secondOf}
+use Rattle.records.specs.contracts.Part.{part}
 use Rattle.records.proofs.laws.RecordAt.{Found, found-record, found-none}
 use Rattle.records.proofs.laws.Shape.{length-part, second-region, second-other, second-more, second-is, shape-attacks}
 use borrow.Author.Needs.{needs}

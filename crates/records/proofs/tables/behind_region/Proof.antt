@@ -4,8 +4,9 @@ use native.Mathlib.Omega.{arith}
 use mathlib.Core.List.{List}
 use mathlib.Core.Path.{sym, ap, _∙_}
 use Rattle.records.specs.Record.{Split, headLength}
-use Rattle.records.specs.Shape.{shapeOf, part}
+use Rattle.records.specs.Shape.{shapeOf}
 use Rattle.records.specs.Tables.{acceptedKinds, thirdOf}
+use Rattle.records.specs.contracts.Part.{part}
 use Rattle.records.proofs.laws.RecordAt.{Found, found-record, found-none}
 use Rattle.records.proofs.laws.Shape.{length-part, third-other, third-more, third-is, shape-replies}
 use Rattle.records.specs.declared.Shape.{Shape}

@@ -4,8 +4,9 @@ use native.Mathlib.Omega.{arith}
 use mathlib.Core.Path.{sym, ap, _∙_}
 use lib.ListN.{drop}
 use Rattle.records.specs.Record.{Split, split}
-use Rattle.records.specs.Shape.{shapeOf, part}
+use Rattle.records.specs.Shape.{shapeOf}
 use Rattle.records.specs.Tables.{acceptedKinds, tablesOf, firstOf, secondOf}
+use Rattle.records.specs.contracts.Part.{part}
 use Rattle.records.proofs.laws.RecordAt.{Found, found-record, found-none}
 use Rattle.records.proofs.laws.Shape.{first-is, first-other}
 use borrow.Author.Needs.{needs}
