@@ -61,7 +61,7 @@ static inline const char *krastopi_text(unsigned char number) {
         "The lent buffer is shorter than what must be written.",
         "A record is cut short, the kinds or their order are wrong, or bytes are left over.",
         "The circuit record differs from the circuit file.",
-        "The region, the replies or the attack table has the wrong length, or an unused region bit is 1.",
+        "The region, the replies or the attack table has the wrong length, or an unused bit is 1.",
         "State 0 isn't in the region, or has rank 0.",
         "A step rule is broken; the place is state x 2^U + reading, or the state in an attack table.",
     };
