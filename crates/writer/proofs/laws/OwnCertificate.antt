@@ -173,7 +173,7 @@ module _ (kind : ℕ) (accepted : Accepted kind) (file : List ℕ) (c : Circuit)
 
     -- the kind that was asked for
     pub own-kind : read ≡ kind
-    own-kind = are .1 .0
+    own-kind = are .1
 
     -- the region record, byte by byte
     region-bytes : take (regionLength L) (drop region own) ≡ regionBytes (inRegion (circuitGame c)) L
@@ -212,7 +212,7 @@ module _ (kind : ℕ) (accepted : Accepted kind) (file : List ℕ) (c : Circuit)
           by true e =
               reply-inside (drop region own) L stored s r (own-region ∙ e)
               ∙ sym (replies-are file own c reads region table read L U C pass s r)
-              ∙ (λ i. replyAt c (are .1 .0 i) (are .1 .1 i) s r)
+              ∙ (λ i. replyAt c (are .1 i) (are .2 i) s r)
               ∙ stored-is c kind s r below (subst (λ (n : ℕ). r < 2 ^ n) (sym (w .readings)) reading)
           by false e = reply-outside (drop region own) L stored s r (own-region ∙ e) ∙ sym (no-reply (circuitGame c) s r e)
 
