@@ -51,8 +51,10 @@ module _ (net region : List ℕ) (kind : ℕ) (table : List ℕ) (i : ℕ) where
         ap not e ∙ sym (ap (λ (d : Bool). not (d && kept reply)) (lt-ltb reply (2 ^ netControls net) h)) ∙ inside-is
 
     -- by the lane of the reply's move, in a block that is evaluated
-    pub lane-fault : Sized net → (words : List ℕ) (move j : ℕ) (b : Bool) → Holding net (move / width) words → move ≡ replyMove net kind table i → j ≡ move % width
-        → reply < 2 ^ netControls net → b ≡ keepsBy (holdsState region (netLatches net)) net (litsIn words j) → not b ≡ replyFault net region kind table i
+    pub lane-fault :
+        Sized net → (words : List ℕ) (move j : ℕ) (b : Bool) → Holding net (move / width) words → move ≡ replyMove net kind table i
+        → j ≡ move % width → reply < 2 ^ netControls net → b ≡ keepsBy (holdsState region (netLatches net)) net (litsIn words j)
+        → not b ≡ replyFault net region kind table i
     unfolding moveIn replyMove
     lane-fault sized words move j b holds m e h k =
         let (before, lits) = holds j (omega arith) in

@@ -66,7 +66,9 @@ module _ (c : Circuit) (region : List ℕ) (kind : ℕ) (table : List ℕ) where
         lowest = λ s r state reading b. not-below flat (m * n) (s * n + r) (flat-is s r reading ∙ reply-breaks c region kind table s r state .1 b);
       }
 
-  pub reply-lowest : (place : ℕ) → LowestReply c region kind table place → (someReplyBroken c region kind table ≡ true) × (brokenReply c region kind table ≡ place)
+  pub reply-lowest :
+      (place : ℕ) → LowestReply c region kind table place
+      → (someReplyBroken c region kind table ≡ true) × (brokenReply c region kind table ≡ place)
   unfolding brokenReply circuitGame
   reply-lowest place w = (lt-ltb (least flat (m * n)) (m * n) (omega (arith, is, below)), is)
     where
@@ -74,7 +76,9 @@ module _ (c : Circuit) (region : List ℕ) (kind : ℕ) (table : List ℕ) where
       below = omega (arith, w .at, digits-lt {q = w .state} {m = m} {r = w .reading} {c = n} (w .isState) (w .isReading))
 
       there : flat place ≡ true
-      there = ap flat (w .at) ∙ flat-is (w .state) (w .reading) (w .isReading) ∙ reply-breaks c region kind table (w .state) (w .reading) (w .isState) .1 (w .breaks)
+      there =
+          ap flat (w .at) ∙ flat-is (w .state) (w .reading) (w .isReading)
+          ∙ reply-breaks c region kind table (w .state) (w .reading) (w .isState) .1 (w .breaks)
 
       before : (j : ℕ) → j < place → flat j ≡ false
       before j h =

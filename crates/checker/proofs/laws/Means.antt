@@ -49,8 +49,8 @@ module _ (c : Circuit) (region : List ℕ) (kind : ℕ) (table : List ℕ) (fine
       (rs : List ℕ) → AllBelow (2 ^ uncontrollableCount c) rs → RepliesHold (circuitGame c) (heldAt c region) (replyAt c kind table) 0 rs
   unfolding circuitGame
   replies-hold rs h =
-      replies-play (circuitGame c) (circuit-proper c) (heldAt c region) (replyAt c kind table) (no-reply-broken c region kind table fine) 0 (pow-pos (latchCount c))
-      (reset-held c region kind table fine 0 (pow-pos (latchCount c)) (reset-zero c)) rs h
+      replies-play (circuitGame c) (circuit-proper c) (heldAt c region) (replyAt c kind table) (no-reply-broken c region kind table fine) 0
+      (pow-pos (latchCount c)) (reset-held c region kind table fine 0 (pow-pos (latchCount c)) (reset-zero c)) rs h
 
   pub replies-realizable : isRealizable c ≡ true
   unfolding isRealizable

@@ -1,33 +1,41 @@
 -- Reading a passed certificate by the starts and counts that the check answers (01, "The certificate"): what is read there is what the
 -- check judged, so it holds when played. Assumes nothing.
-use Prim.Native.Nat.{ℕ, _+_, _-_, _^_, _<_}
+use Prim.Native.Nat.{ℕ, _+_, _-_, _^_, _<_, min}
 use native.Mathlib.Omega.{arith}
 use mathlib.Core.Bool.{Bool, true, false, not, _||_, true≢false}
 use mathlib.Core.List.{List, [], _∷_}
+use mathlib.Core.Logic.{_⊎_}
 use mathlib.Core.Option.{some}
 use mathlib.Core.Path.{_≡_, refl, sym, ap, ap₂, _∙_, subst, subst₂}
 use borrow.Author.Tests.{eqb-true, not-false}
 use lib.Dec.{eqb}
 use lib.ListN.{length, take, drop}
+use Rattle.below.specs.Among.{member}
 use Rattle.bits.specs.Digits.{AllBelow}
 use Rattle.circuit.specs.Circuit.{Circuit, latchCount, uncontrollableCount, controllableCount}
+use Rattle.circuit.specs.Limits.{base}
 use Rattle.circuit.specs.Outcome.{taken, _>>=_}
 use Rattle.circuit.proofs.laws.Outcome.{bind-taken}
 use Rattle.file.specs.CircuitIn.{circuitIn}
+use Rattle.file.proofs.laws.Within.{read-within}
 use Rattle.game.specs.CircuitGame.{circuitGame, isRealizable}
 use Rattle.game.specs.Game.{Game}
 use Rattle.game.specs.Play.{RepliesHold, Strategy, ErrsWithin}
 use Rattle.records.specs.AttackTable.{attackLength, storedRank, storedAttack}
 use Rattle.records.specs.CircuitRecord.{circuitContents, circuitRecord}
+use Rattle.records.specs.PackedReplies.{packedReply}
 use Rattle.records.specs.Passed.{replyIn}
-use Rattle.records.specs.Record.{headLength}
+use Rattle.records.specs.Record.{replyKind, packedKind, headLength}
 use Rattle.records.specs.RegionBits.{regionLength, holdsState, unusedBitSet}
+use Rattle.records.specs.ReplyBytes.{byteReply}
 use Rattle.records.specs.ReplyTable.{tableLength, storedReply, unusedReplyBit}
 use Rattle.records.specs.Shape.{shapeOf}
 use Rattle.records.specs.Tables.{acceptedKinds, Tables, replies, attacks}
 use Rattle.records.specs.contracts.Part.{part}
 use Rattle.records.proofs.laws.Parts.{reply-parts, attack-parts}
 use Rattle.records.proofs.laws.Passed.{reply-inside, region-in-front, stored-in-front, ranks-in-front, attacks-in-front}
+use Rattle.records.proofs.laws.ReplyTable.{stored-packed, stored-byte}
+use Rattle.records.proofs.laws.Shape.{kinds-are}
 use Rattle.records.proofs.laws.Tables.{tables-begin}
 use Rattle.checker.specs.Answer.{Starts, ofReplies, ofAttacks, startsOf, answerOf}
 use Rattle.checker.specs.Check.{checkOf}
@@ -123,6 +131,7 @@ module _ (file certificate : List ℕ) (c : Circuit) (read : circuitIn file ≡ 
     pub tableBytes : List ℕ
     pub checks : checkOf file certificate ≡ taken (replies circuitBytes regionBytes kind tableBytes)
     pub fine : RepliesPass c regionBytes kind tableBytes
+    pub accepted : member kind acceptedKinds ≡ true
     pub latches : latchCount c ≡ L
     pub readings : uncontrollableCount c ≡ U
     pub controls : controllableCount c ≡ C
@@ -149,6 +158,7 @@ module _ (file certificate : List ℕ) (c : Circuit) (read : circuitIn file ≡ 
             tableBytes = bytes;
             checks = f;
             fine = passes-for file certificate (replies circuit states kind bytes) c f read;
+            accepted = there .taken;
             latches = cc;
             readings = cc;
             controls = cc;
@@ -220,6 +230,25 @@ module _ (file certificate : List ℕ) (c : Circuit) (read : circuitIn file ≡ 
         ∙ stored-in-front repliesOn (length (judged .tableBytes)) L s kind U C r
         (long .1 ∙ λ i. tableLength kind (judged .latches i) (judged .readings i) (judged .controls i))
 
+    -- the counts lie within a circuit's limits, so look-ups by the kind read the same
+    few-latches : L ≡ min L (base .latches)
+    few-latches = omega (arith, judged .latches, read-within file c read .fewLatches)
+
+    few-readings : U ≡ min U (base .uncontrollable)
+    few-readings = omega (arith, judged .readings, read-within file c read .fewReadings)
+
+    few-controls : C ≡ min C (base .controllable)
+    few-controls = omega (arith, judged .controls, read-within file c read .fewControls)
+
+    pub bytes-read : kind ≡ replyKind → (s r : ℕ) → storedReply kind repliesOn L U C s r ≡ byteReply repliesOn L U s r
+    bytes-read e s r = stored-byte kind repliesOn L U C s r (λ (p : kind ≡ packedKind). let z : replyKind ≡ packedKind = sym e ∙ p in omega (arith, z))
+
+    pub packed-read :
+        kind ≡ packedKind → (s r : ℕ)
+        → storedReply kind repliesOn L U C s r
+        ≡ packedReply repliesOn (min L (base .latches)) (min U (base .uncontrollable)) (min C (base .controllable)) s r
+    packed-read e s r = stored-packed kind repliesOn L U C s r e ∙ λ i. packedReply repliesOn (few-latches i) (few-readings i) (few-controls i) s r
+
     -- for every finite run of readings a reply is read, the error is 0 and the state stays in the region that is read
     pub replies-hold-as-read :
         (rs : List ℕ) → AllBelow (2 ^ U) rs
@@ -273,6 +302,14 @@ unfolding answerOf
 passed-reads file certificate starts e =
     let (c, reads, rest) = bind-taken (circuitIn file) (λ d. checkOf file certificate >>= λ t. taken (startsOf d t)) starts e in
     (c, reads)
+
+-- a reply certificate passes only with a reply record of kind 3 or 5
+pub passed-kind :
+    (file certificate : List ℕ) (region table kind L U C : ℕ) → answerOf file certificate ≡ taken (ofReplies region table kind L U C)
+    → (kind ≡ replyKind) ⊎ (kind ≡ packedKind)
+passed-kind file certificate region table kind L U C e =
+    let (c, reads) = passed-reads file certificate (ofReplies region table kind L U C) e in
+    kinds-are kind (replies-took file certificate c reads region table kind L U C e .accepted)
 
 pub carries-its-file : (file certificate : List ℕ) (starts : Starts) → answerOf file certificate ≡ taken starts → circuitRecord certificate ≡ file
 carries-its-file file certificate starts e = let (c, reads) = passed-reads file certificate starts e in carries-file file certificate c reads starts e

@@ -44,7 +44,8 @@ module _ (region : List ℕ) (kind : ℕ) (table : List ℕ) (L U C states : ℕ
 module _ (kind : ℕ) (table : List ℕ) (L U C places : ℕ) (all : places ≡ 2 ^ (L + U)) where
   pub few-bits : L ≤ base .latches → U ≤ base .uncontrollable → C ≤ base .controllable → C * places ≤ 2 ^ 18
   few-bits l u h =
-      omega (arith, all, mul-le-mul-right {m = C} {n = base .controllable} places h, pow-mono {i = L + U} {j = base .latches + base .uncontrollable} (omega arith))
+      let most = pow-mono {i = L + U} {j = base .latches + base .uncontrollable} (omega arith) in
+      omega (arith, all, mul-le-mul-right {m = C} {n = base .controllable} places h, most)
 
   pub byte-sized : (kind ≡ packedKind → ⊥) → not (eqb (length table) places) ≡ badReplies kind table L U C
   unfolding tableLength unusedReplyBit replyLength
