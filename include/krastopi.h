@@ -2,9 +2,9 @@
    of docs/FORMAT.md). It links into x86-64 programs: `rt staticlib capi` makes target/staticlib/libcapi.a.
 
    Lent bytes are a pointer, which isn't NULL, and a count. A buffer that is written to overlaps no other. Nothing is kept after a call, and
-   nothing is allocated; 4 MiB of stack are enough for krastopi_certify and krastopi_certify_packed, 1 MiB for every other function. In an answer number 0 says that
-   nothing was refused; after a refusal all but number and place is 0, and no byte is written. L, U and C count latches, uncontrollable
-   and controllable inputs. */
+   nothing is allocated; 4 MiB of stack are enough for krastopi_certify and krastopi_certify_packed, 1 MiB for every other function. In an
+   answer number 0 says that nothing was refused; after a refusal all but number and place is 0, and no byte is written. L, U and C count
+   latches, uncontrollable and controllable inputs. */
 #ifndef KRASTOPI_H
 #define KRASTOPI_H
 

@@ -8,6 +8,7 @@ use mathlib.Core.Path.{_≡_, refl, sym, ap, _∙_}
 use lib.ListN.{length, take}
 use Rattle.checker.specs.Answer.{Starts, ofReplies, ofAttacks, answerOf}
 use Rattle.checker.proofs.laws.Numbered.{check-numbered}
+use Rattle.checker.proofs.laws.ReadPassed.{passed-kind}
 use Rattle.circuit.specs.Answer.{WrittenAs, writtenOutcome, countOf, bufferAfter}
 use Rattle.circuit.specs.Circuit.{Circuit, latchCount, uncontrollableCount, controllableCount}
 use Rattle.circuit.specs.Outcome.{Outcome, taken, refused, _>>=_}
@@ -27,7 +28,7 @@ use Rattle.writer.proofs.laws.Passes.{Accepted}
 use Rattle.writer.proofs.laws.OwnCertificate.{Passing, told-passes, told-reads, verdict-refused-exactly}
 use Rattle.capi.specs.Plain.{readAnswer, stepAnswer, certifyAnswer, checkAnswer, printAnswer}
 use Rattle.capi.specs.Stepped.{fileStepped}
-use Rattle.capi.proofs.laws.Kinds.{replies-kind, attacks-no-replies}
+use Rattle.capi.proofs.laws.Stored.{repliesTold}
 use Rattle.capi.specs.declared.CertifyAnswer.{CertifyAnswer}
 use Rattle.capi.specs.declared.CheckAnswer.{CheckAnswer}
 use Rattle.capi.specs.declared.PrintAnswer.{PrintAnswer}
@@ -87,7 +88,8 @@ module _ (kind : ℕ) (accepted : Accepted kind) (file before : List ℕ) (a : C
       × (take (a .bytes) after ≡ certificateOf kind file c) × (answerOf file (take (a .bytes) after) ≡ taken starts)
 
   module _ (is : a ≡ certifyAnswer tells) where
-    pub zero-certified : (after : List ℕ) → after ≡ bufferAfter (certificateFor kind file (circuitIn file) (length before)) before → a .number ≡ 0 → Stands after
+    pub zero-certified :
+        (after : List ℕ) → after ≡ bufferAfter (certificateFor kind file (circuitIn file) (length before)) before → a .number ≡ 0 → Stands after
     unfolding certifyAnswer
     zero-certified after written zero = by tells refl is
       where
@@ -114,9 +116,6 @@ module _ (kind : ℕ) (accepted : Accepted kind) (file before : List ℕ) (a : C
 
 module _ (file certificate : List ℕ) (a : CheckAnswer) where
   -- the starts that the answer tells
-  abbrev repliesTold : Starts
-  repliesTold = ofReplies (a .region) (a .table) (a .kind) (a .latches) (a .readings) (a .controls)
-
   abbrev attacksTold : Starts
   attacksTold = ofAttacks (a .table) (a .latches) (a .readings)
 
@@ -126,12 +125,16 @@ module _ (file certificate : List ℕ) (a : CheckAnswer) where
   not-zero : (n p : ℕ) → answerOf file certificate ≡ refused n p → a .number ≡ n → a .number ≡ 0 → ⊥
   not-zero n p e q zero = absurd (omega (arith, q, zero, check-numbered file certificate n p e .0))
 
+  other : (kind : ℕ) → kind ≡ attackKind → (kind ≡ replyKind) ⊎ (kind ≡ packedKind) → ⊥
+  other kind e (inl f) = absurd (omega (arith, e, f))
+  other kind e (inr f) = absurd (omega (arith, e, f))
+
   module _ (is : a ≡ checkAnswer (answerOf file certificate)) where
-    pub zero-replies : a .number ≡ 0 → (a .kind ≡ attackKind → ⊥) → answerOf file certificate ≡ taken repliesTold
+    pub zero-replies : a .number ≡ 0 → (a .kind ≡ attackKind → ⊥) → answerOf file certificate ≡ taken (repliesTold a)
     unfolding checkAnswer
     zero-replies zero kind = by (answerOf file certificate) refl is
       where
-        by : (o : Outcome Starts) → answerOf file certificate ≡ o → a ≡ checkAnswer o → answerOf file certificate ≡ taken repliesTold
+        by : (o : Outcome Starts) → answerOf file certificate ≡ o → a ≡ checkAnswer o → answerOf file certificate ≡ taken (repliesTold a)
         by (taken (ofReplies region table sort L U C)) e f =
             e ∙ sym (λ x. taken (ofReplies (f x .region) (f x .table) (f x .kind) (f x .latches) (f x .readings) (f x .controls)))
         by (taken (ofAttacks table L U)) e f = absurd (kind (λ x. f x .kind))
@@ -143,7 +146,7 @@ module _ (file certificate : List ℕ) (a : CheckAnswer) where
       where
         by : (o : Outcome Starts) → answerOf file certificate ≡ o → a ≡ checkAnswer o → answerOf file certificate ≡ taken attacksTold
         by (taken (ofReplies region table sort L U C)) e f =
-            let q : a .kind ≡ sort = λ x. f x .kind in absurd (attacks-no-replies file certificate region table sort L U C e (sym q ∙ kind))
+            let q : a .kind ≡ sort = λ x. f x .kind in absurd (other sort (sym q ∙ kind) (passed-kind file certificate region table sort L U C e))
         by (taken (ofAttacks table L U)) e f = e ∙ sym (λ x. taken (ofAttacks (f x .table) (f x .latches) (f x .readings)))
         by (refused n p) e f = absurd (not-zero n p e (λ x. f x .number) zero)
 
@@ -156,7 +159,7 @@ module _ (file certificate : List ℕ) (a : CheckAnswer) where
         told sort q (inr e) = inr (inl (q ∙ e))
 
         by : (o : Outcome Starts) → answerOf file certificate ≡ o → a ≡ checkAnswer o → Either
-        by (taken (ofReplies region table sort L U C)) e f = told sort (λ x. f x .kind) (replies-kind file certificate region table sort L U C e)
+        by (taken (ofReplies region table sort L U C)) e f = told sort (λ x. f x .kind) (passed-kind file certificate region table sort L U C e)
         by (taken (ofAttacks table L U)) e f = inr (inr (λ x. f x .kind))
         by (refused n p) e f = absurd (not-zero n p e (λ x. f x .number) zero)
 
