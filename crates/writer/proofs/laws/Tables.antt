@@ -54,10 +54,10 @@ module _ (c : Circuit) (states : ℕ) (ranks : List ℕ) (solved : Solved c stat
   region-written = bit-bytes-same (rankZero ranks) (inRegion (circuitGame c)) states zero-is ∙ ap (bitBytes (inRegion (circuitGame c))) (solved .statesAre)
 
 pub replies-written :
-    (c : Circuit) (states readings : ℕ) (ranks replies : List ℕ) → Replied c states readings ranks replies
+    (c : Circuit) (states readings controls : ℕ) (ranks replies : List ℕ) → Replied c states readings controls ranks replies
     → take (states * readings) replies ≡ replyBytes (reply (circuitGame c)) (latchCount c) (uncontrollableCount c)
 unfolding replyBytes replyLength circuitGame
-replies-written c states readings ranks replies replied =
+replies-written c states readings controls ranks replies replied =
     (λ x. take (replied .solved .statesAre x * replied .readingsAre x) (replied .repliesAre x))
     ∙ replies-front (circuitGame c)
     (mul-le-mul {n₂ = 2 ^ base .latches} {m₂ = 2 ^ base .uncontrollable} (omega (arith, replied .solved .few, replied .solved .statesAre))
