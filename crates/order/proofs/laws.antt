@@ -1,1 +1,5 @@
 pub mod Alarms
+pub mod Marks
+pub mod Members
+pub mod Visit
+pub mod Meets
