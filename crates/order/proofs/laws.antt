@@ -3,3 +3,4 @@ pub mod Marks
 pub mod Members
 pub mod Visit
 pub mod Meets
+pub mod Grown

@@ -15,7 +15,7 @@ use Rattle.below.proofs.laws.Table.{getD-table, length-table}
 use Rattle.order.specs.Placing.{marked, waits}
 use Rattle.order.specs.contracts.Unseen.{unseen}
 
-both-true : (a b : Bool) → (a && b) ≡ true → (a ≡ true) × (b ≡ true)
+pub both-true : (a b : Bool) → (a && b) ≡ true → (a ≡ true) × (b ≡ true)
 both-true true true e = (refl, refl)
 both-true true false e = absurd (true≢false (sym e))
 both-true false b e = absurd (true≢false (sym e))
