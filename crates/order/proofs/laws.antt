@@ -4,3 +4,4 @@ pub mod Members
 pub mod Visit
 pub mod Meets
 pub mod Grown
+pub mod Placed
