@@ -5,3 +5,4 @@ pub mod Visit
 pub mod Meets
 pub mod Grown
 pub mod Placed
+pub mod NoCircle
