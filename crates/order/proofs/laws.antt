@@ -6,3 +6,4 @@ pub mod Meets
 pub mod Grown
 pub mod Placed
 pub mod NoCircle
+pub mod Reached
