@@ -7,3 +7,8 @@ pub mod Grown
 pub mod Placed
 pub mod NoCircle
 pub mod Reached
+pub mod Tested
+pub mod Going
+pub mod Met
+pub mod Answer
+pub mod Gates

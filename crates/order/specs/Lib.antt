@@ -3,4 +3,5 @@ pub mod Reaches
 pub mod Placing
 pub mod Ordered
 pub mod Circle
+pub mod Answer
 pub mod contracts
