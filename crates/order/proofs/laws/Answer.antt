@@ -45,7 +45,8 @@ module _ (uses : List ℕ) (n : ℕ) where
       same h = let told = circle-told h in cc
 
       lowest : lowestCircle uses n < n → (i < n) × Reaches uses n i i × ((j : ℕ) → j < i → Reaches uses n j j → ⊥)
-      lowest h = subst (λ (x : ℕ). (x < n) × Reaches uses n x x × ((j : ℕ) → j < x → Reaches uses n j j → ⊥)) (same h) (h, lowest-reaches uses n h, below-lowest uses n)
+      lowest h = subst (λ (x : ℕ). (x < n) × Reaches uses n x x × ((j : ℕ) → j < x → Reaches uses n j j → ⊥)) (same h)
+          (h, lowest-reaches uses n h, below-lowest uses n)
 
   pub means-circle : (i : ℕ) → i < n → Reaches uses n i i → ((j : ℕ) → j < i → Reaches uses n j j → ⊥) → answerOf uses n ≡ Circle i
   means-circle i l r least = circle-told low ∙ ap Circle same

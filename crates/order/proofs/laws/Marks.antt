@@ -23,7 +23,8 @@ both-true false b e = absurd (true≢false (sym e))
 module _ (marks : List ℕ) (i : ℕ) where
   pub mark-same : marked (set marks i 1) i ≡ true
   unfolding marked
-  mark-same = elim (decLt i (length marks)) [ yes h ↦ rw (getD-set-same marks i 1 1 h) | no h ↦ rw (List·getD-eq-default (set marks i 1) 1 {n = i} (omega (arith, length-set marks i 1))) ]
+  mark-same = elim (decLt i (length marks))
+      [ yes h ↦ rw (getD-set-same marks i 1 1 h) | no h ↦ rw (List·getD-eq-default (set marks i 1) 1 {n = i} (omega (arith, length-set marks i 1))) ]
 
   pub mark-other : (j : ℕ) → ¬ (j ≡ i) → marked (set marks i 1) j ≡ marked marks j
   unfolding marked
@@ -96,7 +97,8 @@ unseen-mark [] i e = absurd (true≢false e)
 unseen-mark (m ∷ ms) zero e = rw (not-false (eqb m 0) e)
 unseen-mark (m ∷ ms) (suc i) e = by (eqb m 0) (unseen-mark ms i e)
   where
-    by : (t : Bool) → unseen ms ≡ suc (unseen (set ms i 1)) → cond t (suc (unseen ms)) (unseen ms) ≡ suc (cond t (suc (unseen (set ms i 1))) (unseen (set ms i 1)))
+    by : (t : Bool) → unseen ms ≡ suc (unseen (set ms i 1)) → cond t (suc (unseen ms)) (unseen ms) ≡ suc
+        (cond t (suc (unseen (set ms i 1))) (unseen (set ms i 1)))
     by true h = ap suc h
     by false h = h
 

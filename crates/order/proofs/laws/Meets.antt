@@ -14,7 +14,19 @@ use Rattle.order.specs.Placing.{Placing, marked, visit, nothing}
 use Rattle.order.specs.Circle.{from, meetsItself, lowestCircle}
 use Rattle.order.proofs.laws.Marks.{nothing-marked, unseen-nothing}
 use Rattle.order.proofs.laws.Members.{member-dec}
-use Rattle.order.proofs.laws.Visit.{Visit, Closed, visit-is, unseen-fewer, marks-grow, visited-marked, newly-reached, open-before, visit-closed, from-first, from-second}
+use Rattle.order.proofs.laws.Visit.{
+  Visit,
+  Closed,
+  visit-is,
+  unseen-fewer,
+  marks-grow,
+  visited-marked,
+  newly-reached,
+  open-before,
+  visit-closed,
+  from-first,
+  from-second,
+}
 
 pub uses-below : {uses : List ℕ} {n i j : ℕ} → Uses uses n i j → j < n
 uses-below (asFirst h e) = h
@@ -58,7 +70,8 @@ module _ (uses : List ℕ) (n i : ℕ) where
   along (through {i = j} {j = l} u r) h m = along r (uses-below u) (onward j l h m u)
 
   start : (j : ℕ) → Uses uses n i j → marked (both .marks) j ≡ true
-  start j (asFirst h e) = subst (λ (x : ℕ). marked (both .marks) x ≡ true) e (marks-grow to-both (firstOf uses n i) (visited-marked to-first (subst (λ (x : ℕ). x < n) (sym e) h)))
+  start j (asFirst h e) = subst (λ (x : ℕ). marked (both .marks) x ≡ true) e
+      (marks-grow to-both (firstOf uses n i) (visited-marked to-first (subst (λ (x : ℕ). x < n) (sym e) h)))
   start j (asSecond h e) = subst (λ (x : ℕ). marked (both .marks) x ≡ true) e (visited-marked to-both (subst (λ (x : ℕ). x < n) (sym e) h))
 
   reached-marked : {k : ℕ} → Reaches uses n i k → marked (both .marks) k ≡ true

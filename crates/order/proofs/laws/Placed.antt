@@ -16,7 +16,19 @@ use Rattle.order.specs.Uses.{Uses, asFirst, asSecond, firstOf, secondOf}
 use Rattle.order.specs.Placing.{Placing, marked, waits, mark, place, visit, nothing, visits, placed, orderOf}
 use Rattle.order.specs.contracts.Unseen.{unseen}
 use Rattle.order.proofs.laws.Marks.{mark-same, mark-other, nothing-marked, marked-stays, past-stays, unmarked-waits, unseen-none, unseen-nothing}
-use Rattle.order.proofs.laws.Visit.{Visit, stays, goes, visit-is, visit-stays, unseen-fewer, visit-counts, visit-long, marks-grow, visited-marked, open-before}
+use Rattle.order.proofs.laws.Visit.{
+  Visit,
+  stays,
+  goes,
+  visit-is,
+  visit-stays,
+  unseen-fewer,
+  visit-counts,
+  visit-long,
+  marks-grow,
+  visited-marked,
+  open-before,
+}
 
 unseen-zeros : (n : ℕ) → unseen (replicate n 0) ≡ n
 unfolding unseen
@@ -81,7 +93,8 @@ module _ (uses : List ℕ) (n : ℕ) where
       later : (j : ℕ) → k ≤ j → j < n → marked (visits uses n k .marks) j ≡ false
 
     -- a gate whose operands are marked is placed at once
-    at-once : (i : ℕ) (p q : Placing) → Visit uses n i p q → waits n (p .marks) i ≡ true → waits n (set (p .marks) i 1) (firstOf uses n i) ≡ false → waits n (set (p .marks) i 1) (secondOf uses n i) ≡ false → q ≡ place i (mark i p)
+    at-once : (i : ℕ) (p q : Placing) → Visit uses n i p q → waits n (p .marks) i ≡ true → waits n (set (p .marks) i 1) (firstOf uses n i) ≡ false
+        → waits n (set (p .marks) i 1) (secondOf uses n i) ≡ false → q ≡ place i (mark i p)
     at-once i p q (stays e) w a b = absurd (true≢false (sym w ∙ e))
     at-once i p s (goes {q = q} {r = r} e v u) w a b = ap (place i) (second ∙ first)
       where
@@ -120,7 +133,8 @@ module _ (uses : List ℕ) (n : ℕ) where
             let next = standing-next k h s in
             record {
               order = ap (λ (p : Placing). p .order) next ∙ ap (λ (l : List ℕ). l ++ (k ∷ [])) (s .order);
-              later = λ j a b. ap (λ (p : Placing). marked (p .marks) j) next ∙ mark-other (visits uses n k .marks) k j (omega arith) ∙ s .later j (omega arith) b;
+              later = λ j a b. ap (λ (p : Placing). marked (p .marks) j) next ∙ mark-other (visits uses n k .marks) k j (omega arith)
+                  ∙ s .later j (omega arith) b;
             }
 
     pub order-as-it-stands : orderOf uses n ≡ table (λ i. i) n

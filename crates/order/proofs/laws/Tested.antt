@@ -53,7 +53,8 @@ module _ (uses marks : List ℕ) (gate : ℕ) where
 
     pub second-looked : marked marks f ≡ true → (s : ℕ) → s ≡ getD uses (2 * gate + 1) 0 → marked marks s ≡ fitsMarked uses marks gate
     unfolding fitsMarked
-    second-looked e s isSecond = rw (own, first, e) (ap (marked marks) (isSecond ∙ at-place uses (2 * gate + 1) 0 (length marks) (omega (arith, unmarked-below marks gate own))))
+    second-looked e s isSecond = rw (own, first, e)
+        (ap (marked marks) (isSecond ∙ at-place uses (2 * gate + 1) 0 (length marks) (omega (arith, unmarked-below marks gate own))))
 
   pub fits-unmarked : fitsMarked uses marks gate ≡ true → gate < length marks
   unfolding fitsMarked
@@ -88,10 +89,15 @@ module _ (uses : List ℕ) (n : ℕ) (order : List ℕ) where
 
   pub tested-start : (marks : List ℕ) → marks ≡ table (λ i. 0) n → Tested 0 marks
   unfolding stands member among
-  tested-start marks e = record { within = omega arith; long = ap length e ∙ length-table {A = ℕ} (λ i. 0) n; front = front; passed = λ j h. absurd (not-suc-le-zero h) }
+  tested-start marks e =
+      record { within = omega arith; long = ap length e ∙ length-table {A = ℕ} (λ i. 0) n; front = front; passed = λ j h. absurd (not-suc-le-zero h) }
     where
       front : (j : ℕ) → marked marks j ≡ (leb n j || false)
-      front j = elim (decLt j n) [ yes h ↦ ap (λ (l : List ℕ). marked l j) e ∙ nothing-marked n j h ∙ sym (ap (λ (t : Bool). t || false) (lt-leb n j h)) | no h ↦ sym (marked-past marks j (omega (arith, ap length e, length-table {A = ℕ} (λ i. 0) n))) ∙ sym (ap (λ (t : Bool). t || false) (le-leb n j (omega arith))) ]
+      front j = elim (decLt j n) [
+        | yes h ↦ ap (λ (l : List ℕ). marked l j) e ∙ nothing-marked n j h ∙ sym (ap (λ (t : Bool). t || false) (lt-leb n j h))
+        | no h ↦ sym (marked-past marks j (omega (arith, ap length e, length-table {A = ℕ} (λ i. 0) n)))
+            ∙ sym (ap (λ (t : Bool). t || false) (le-leb n j (omega arith)))
+      ]
 
   module _ (k : ℕ) (marks : List ℕ) (t : Tested k marks) where
     -- marks say whether the next gate fits
@@ -115,7 +121,11 @@ module _ (uses : List ℕ) (n : ℕ) (order : List ℕ) where
         same = mark-same marks (getD order k n) ∙ sym (ap (λ (l : List ℕ). stands n l (getD order k n)) next ∙ put-stands n (take k order) (getD order k n))
 
         front : (j : ℕ) → marked (set marks (getD order k n) 1) j ≡ stands n (take (k + 1) order) j
-        front j = elim (ℕ-discrete j (getD order k n)) [ yes q ↦ rw (q, same) | no d ↦ mark-other marks (getD order k n) j d ∙ t .front j ∙ sym (ap (λ (l : List ℕ). stands n l j) next ∙ stands-put n (take k order) (getD order k n) j d) ]
+        front j = elim (ℕ-discrete j (getD order k n)) [
+          | yes q ↦ rw (q, same)
+          | no d ↦ mark-other marks (getD order k n) j d ∙ t .front j
+              ∙ sym (ap (λ (l : List ℕ). stands n l j) next ∙ stands-put n (take k order) (getD order k n) j d)
+        ]
 
         passed : (j : ℕ) → j < k + 1 → fits uses n (take j order) (getD order j n) ≡ true
         passed j l = elim (decLt j k) [ yes a ↦ t .passed j a | no a ↦ last j (omega arith) ]
