@@ -1,5 +1,5 @@
 -- How many gates are spoken of: no more than there are numbers, marks and places for; fronts of that length serve. Assumes nothing.
-use Prim.Native.Nat.{ℕ, _≤_}
+use Prim.Native.Nat.{ℕ}
 use native.Mathlib.Omega.{arith}
 use mathlib.Core.List.{List, _++_}
 use mathlib.Core.Path.{_≡_, sym, ap, ap₂, _∙_}
@@ -9,17 +9,11 @@ use Rattle.order.specs.Answer.{gatesIn}
 use Rattle.order.specs.contracts.Lent.{Lent}
 
 module _ (uses marks order : List ℕ) (n : ℕ) (are : n ≡ gatesIn uses marks order) where
-  pub within-marks : n ≤ length marks
-  within-marks = omega arith
-
-  pub within-order : n ≤ length order
-  within-order = omega arith
-
   pub marks-front : length (take n marks) ≡ n
-  marks-front = length-take-le n marks within-marks
+  marks-front = length-take-le n marks (omega arith)
 
   pub order-front : length (take n order) ≡ n
-  order-front = length-take-le n order within-order
+  order-front = length-take-le n order (omega arith)
 
   pub fronts-lent : Lent uses (take n marks) (take n order)
   fronts-lent = record { pairs = omega (arith, marks-front); small = omega (arith, marks-front); long = order-front ∙ sym marks-front }

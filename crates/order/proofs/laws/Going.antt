@@ -1,17 +1,16 @@
 -- The loop that visits all gates in turn: after k of them marks and places are those of the definition. Assumes nothing.
-use Prim.Native.Nat.{ℕ, zero, suc, _+_, _*_, _<_, _≤_}
+use Prim.Native.Nat.{ℕ, _+_, _*_, _<_, _≤_}
 use native.Mathlib.Omega.{arith}
 use native.Mathlib.Numerals.{add-one}
 use mathlib.Core.List.{List}
-use mathlib.Core.Path.{_≡_, refl, sym, ap, _∙_}
-use lib.ListN.{length, take}
+use mathlib.Core.Path.{_≡_, sym, ap, _∙_}
+use lib.ListN.{length}
 use lib.Seq.{take-all}
 use Rattle.below.specs.Table.{table}
 use Rattle.below.proofs.laws.Table.{length-table}
 use Rattle.order.specs.Placing.{Placing, visit, nothing, visits, placed, orderOf}
 use Rattle.order.specs.contracts.Unseen.{unseen}
 use Rattle.order.specs.contracts.Visited.{Room, Visited, placingOf}
-use Rattle.order.specs.contracts.Lent.{Lent}
 use Rattle.order.proofs.laws.Placed.{unseen-all, placed-all}
 
 pub record Going (uses : List ℕ) (n k : ℕ) (marks order : List ℕ) (count : ℕ) : Type 0 where

@@ -1,15 +1,14 @@
 -- An order that grows gate by gate: each fits behind those in front of it. Such an order of n gates is an order of evaluation, and the test
 -- says so. Assumes nothing.
-use Prim.Native.Nat.{ℕ, zero, suc, _+_, _<_, _≤_}
+use Prim.Native.Nat.{ℕ, zero, suc, _<_, _≤_}
 use native.Mathlib.Omega.{arith}
-use native.Mathlib.Decide.{decLt, ℕ-discrete}
-use native.Mathlib.Nat.{not-suc-le-zero}
+use native.Mathlib.Decide.{decLt}
 use mathlib.Core.Bool.{Bool, true, false, not, _&&_, _||_, true≢false}
 use mathlib.Core.List.{List, [], _∷_, _++_}
 use mathlib.Core.Path.{_≡_, refl, sym, ap, _∙_, subst, subst₂}
 use lib.Dec.{eqb, ltb, leb}
 use lib.ListN.{length, getD, take, length-append, List·getD-append}
-use lib.Seq.{take-append-le, take-at, take-all, take-suc, getD-at}
+use lib.Seq.{take-append-le, take-at, take-suc, getD-at}
 use borrow.Author.Tests.{ltb-true, leb-true, eqb-true, eq-eqb, lt-ltb, le-leb, not-true}
 use Rattle.below.specs.Among.{member}
 use Rattle.below.specs.Least.{every}
@@ -46,7 +45,7 @@ gate-stands n front j m = elim (decLt j n) [ yes h ↦ by (leb n j) (m h) | no h
     by false q = q
 
 module _ (uses : List ℕ) (n : ℕ) (front : List ℕ) (gate : ℕ) where
-  pub fits-true : fits uses n front gate ≡ true → Fits uses n front gate
+  fits-true : fits uses n front gate ≡ true → Fits uses n front gate
   unfolding fits
   fits-true e = record { within = ltb-true gate n (own .0); fresh = not-true (member gate front) (own .1); behind = behind }
     where
@@ -63,7 +62,7 @@ module _ (uses : List ℕ) (n : ℕ) (front : List ℕ) (gate : ℕ) where
       behind j (asFirst h s) = stands-gate n front j (subst (λ (x : ℕ). stands n front x ≡ true) s (operands .0)) h
       behind j (asSecond h s) = stands-gate n front j (subst (λ (x : ℕ). stands n front x ≡ true) s (operands .1)) h
 
-  pub true-fits : Fits uses n front gate → fits uses n front gate ≡ true
+  true-fits : Fits uses n front gate → fits uses n front gate ≡ true
   unfolding fits
   true-fits f = rw (
     lt-ltb gate n (f .within),
@@ -124,7 +123,7 @@ module _ (uses : List ℕ) (n : ℕ) where
         before : (k j : ℕ) → k < n → Uses uses n (getD order k n) j → (m : ℕ) × (m < k) × (getD order m n ≡ j)
         before k j h u = member-place order k j n (grown k (omega arith) .behind j u)
 
-  pub ordered-grown : (order : List ℕ) → Ordered uses n order → Grown uses n order
+  ordered-grown : (order : List ℕ) → Ordered uses n order → Grown uses n order
   ordered-grown order o k h = record { within = o .within k low; fresh = fresh (member (getD order k n) (take k order)) refl; behind = behind }
     where
       low : k < n

@@ -1,5 +1,5 @@
 -- What holds of marks: marking a gate marks it and no other; how many are left unmarked. Assumes nothing.
-use Prim.Native.Nat.{ℕ, zero, suc, _+_, _<_, _≤_}
+use Prim.Native.Nat.{ℕ, zero, suc, _<_, _≤_}
 use native.Mathlib.Omega.{arith}
 use native.Mathlib.Decide.{decLt, ℕ-discrete}
 use native.Mathlib.Nat.{le-refl}
@@ -9,7 +9,7 @@ use mathlib.Core.Path.{_≡_, refl, sym, ap, _∙_}
 use lib.Dec.{eqb, ltb}
 use lib.ListN.{length, getD, set, length-set, List·getD-eq-default}
 use lib.Seq.{getD-set-same, getD-set-other}
-use borrow.Author.Tests.{ltb-true, ltb-false, lt-ltb, le-ltb, eqb-true, eqb-false, eq-eqb, ne-eqb, not-true, not-false}
+use borrow.Author.Tests.{ltb-true, lt-ltb, le-ltb, ne-eqb, not-true, not-false}
 use Rattle.below.specs.Table.{table}
 use Rattle.below.proofs.laws.Table.{getD-table, length-table}
 use Rattle.order.specs.Placing.{marked, waits}
@@ -66,10 +66,6 @@ module _ (n : ℕ) (marks : List ℕ) (i : ℕ) where
       by false m = absurd (true≢false (sym (unmarked-waits h m) ∙ e))
 
 -- a mark in numbers
-pub marked-one : (marks : List ℕ) (i : ℕ) → marked marks i ≡ false → getD marks i 1 ≡ 0
-unfolding marked
-marked-one marks i e = eqb-true (getD marks i 1) 0 (not-false (eqb (getD marks i 1) 0) e)
-
 pub zero-unmarked : (marks : List ℕ) (i : ℕ) → getD marks i 1 ≡ 0 → marked marks i ≡ false
 unfolding marked
 zero-unmarked marks i e = rw e

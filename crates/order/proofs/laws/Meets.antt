@@ -1,5 +1,5 @@
 -- Visiting a gate's operands from nothing meets it exactly if it reaches itself (02, T-01). Assumes nothing.
-use Prim.Native.Nat.{ℕ, _<_, _≤_}
+use Prim.Native.Nat.{ℕ, _<_}
 use native.Mathlib.Omega.{arith}
 use mathlib.Core.Bool.{Bool, true, false, true≢false}
 use mathlib.Core.List.{List}
@@ -7,7 +7,7 @@ use mathlib.Core.Logic.{⊎-elim}
 use mathlib.Core.Path.{_≡_, refl, sym, _∙_, subst}
 use Rattle.below.specs.Among.{among, member}
 use Rattle.below.specs.Least.{least}
-use Rattle.below.proofs.laws.Least.{least-le, least-holds, least-before, least-none}
+use Rattle.below.proofs.laws.Least.{least-holds, least-before, least-none}
 use Rattle.order.specs.Uses.{Uses, asFirst, asSecond, firstOf, secondOf}
 use Rattle.order.specs.Reaches.{Reaches, atOnce, through}
 use Rattle.order.specs.Placing.{Placing, marked, visit, nothing}
@@ -91,10 +91,6 @@ module _ (uses : List ℕ) (n : ℕ) where
   pub below-lowest : (i : ℕ) → i < lowestCircle uses n → Reaches uses n i i → ⊥
   unfolding lowestCircle
   below-lowest i h r = true≢false (sym (reaches-meets uses n i r) ∙ least-before (meetsItself uses n) n i h)
-
-  pub lowest-most : lowestCircle uses n ≤ n
-  unfolding lowestCircle
-  lowest-most = least-le (meetsItself uses n) n
 
   pub no-circle-lowest : ((i : ℕ) → i < n → Reaches uses n i i → ⊥) → lowestCircle uses n ≡ n
   unfolding lowestCircle

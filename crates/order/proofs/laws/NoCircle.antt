@@ -1,13 +1,13 @@
 -- Where no gate reaches itself the placed gates are an order of evaluation, and only there is one (02, T-01). Assumes nothing.
-use Prim.Native.Nat.{ℕ, zero, suc, _<_, _≤_}
+use Prim.Native.Nat.{ℕ, zero, suc, _<_}
 use native.Mathlib.Omega.{arith}
 use native.Mathlib.Decide.{decLt, ℕ-discrete}
 use native.Mathlib.Nat.{not-suc-le-zero}
-use mathlib.Core.Bool.{Bool, true, false, true≢false}
-use mathlib.Core.List.{List, [], _∷_, _++_}
+use mathlib.Core.Bool.{true, false, true≢false}
+use mathlib.Core.List.{List}
 use mathlib.Core.Logic.{⊎-elim}
 use mathlib.Core.Path.{_≡_, refl, sym, ap, _∙_, subst}
-use lib.ListN.{length, getD, set}
+use lib.ListN.{getD}
 use Rattle.below.specs.Among.{among, member}
 use Rattle.order.specs.Uses.{Uses, asFirst, asSecond, firstOf, secondOf}
 use Rattle.order.specs.Reaches.{Reaches, atOnce, through}
@@ -17,11 +17,11 @@ use Rattle.order.specs.Circle.{lowestCircle}
 use Rattle.order.proofs.laws.Marks.{mark-same, mark-other, mark-grows, waits-below, waits-unmarked, past-stays}
 use Rattle.order.proofs.laws.Members.{put-cases, member-dec}
 use Rattle.order.proofs.laws.Visit.{Visit, stays, goes, visit-stays, marks-grow, visited-marked, open-before, open-after}
-use Rattle.order.proofs.laws.Meets.{uses-below, lowest-reaches, below-lowest, lowest-most, no-circle-lowest}
+use Rattle.order.proofs.laws.Meets.{uses-below, below-lowest, no-circle-lowest}
 use Rattle.order.proofs.laws.Grown.{Fits, Grown, grown-put, grown-ordered, test-ordered, ordered-test}
 use Rattle.order.proofs.laws.Placed.{visits-next, visits-whole, placed-length}
 
-pub reaches-on : {uses : List ℕ} {n i j k : ℕ} → Reaches uses n i j → Uses uses n j k → Reaches uses n i k
+reaches-on : {uses : List ℕ} {n i j k : ℕ} → Reaches uses n i j → Uses uses n j k → Reaches uses n i k
 reaches-on (atOnce u) w = through u (atOnce w)
 reaches-on (through u r) w = through u (reaches-on r w)
 

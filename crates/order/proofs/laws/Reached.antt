@@ -1,17 +1,17 @@
 -- What a visit leaves, from what the calls inside it leave. Assumes nothing.
-use Prim.Native.Nat.{ℕ, zero, suc, _+_, _*_, _<_, _≤_}
+use Prim.Native.Nat.{ℕ, zero, suc, _+_, _<_, _≤_}
 use native.Mathlib.Omega.{arith}
 use native.Mathlib.Numerals.{add-one}
 use native.Mathlib.Nat.{not-suc-le-zero, le-refl}
-use mathlib.Core.Bool.{Bool, true, false, not, _&&_}
+use mathlib.Core.Bool.{true, false}
 use mathlib.Core.List.{List, [], _∷_, _++_}
-use mathlib.Core.Path.{_≡_, refl, sym, ap, _∙_, subst}
+use mathlib.Core.Path.{_≡_, refl, sym, ap, _∙_}
 use lib.ListN.{length, getD, take, set, length-set}
 use lib.Seq.{take-suc-set, getD-set-other}
 use Rattle.order.specs.Uses.{firstOf, secondOf}
 use Rattle.order.specs.Placing.{Placing, marked, waits, visit, mark, place}
 use Rattle.order.specs.contracts.Unseen.{unseen}
-use Rattle.order.specs.contracts.Visited.{Room, Reached, Visited, Operands, placingOf, operandsOf}
+use Rattle.order.specs.contracts.Visited.{Room, Visited, Operands, placingOf, operandsOf}
 use Rattle.order.proofs.laws.Marks.{unseen-mark, unmarked-waits, zero-unmarked, not-zero-marked, marked-stays, past-stays}
 
 -- what stands at a place of a list doesn't depend on what is taken behind its end
@@ -20,7 +20,7 @@ at-place [] i a b h = absurd (not-suc-le-zero h)
 at-place (x ∷ xs) zero a b h = refl
 at-place (x ∷ xs) (suc i) a b h = at-place xs i a b (omega arith)
 
-pub visit-none : (uses : List ℕ) (n fuel gate : ℕ) (p : Placing) → waits n (p .marks) gate ≡ false → visit uses n fuel gate p ≡ p
+visit-none : (uses : List ℕ) (n fuel gate : ℕ) (p : Placing) → waits n (p .marks) gate ≡ false → visit uses n fuel gate p ≡ p
 unfolding visit
 visit-none uses n zero gate p e = refl
 visit-none uses n (suc fuel) gate p e = rw (e, visit)

@@ -1,5 +1,5 @@
 -- The loop that tests an order: the gates in front are marked, each fitted, and marks say whether the next one does. Assumes nothing.
-use Prim.Native.Nat.{ℕ, zero, suc, _+_, _*_, _<_, _≤_}
+use Prim.Native.Nat.{ℕ, _+_, _*_, _<_, _≤_}
 use native.Mathlib.Omega.{arith}
 use native.Mathlib.Numerals.{add-one}
 use native.Mathlib.Decide.{decLt, ℕ-discrete}
@@ -20,7 +20,7 @@ use Rattle.order.specs.Uses.{firstOf, secondOf}
 use Rattle.order.specs.Placing.{marked}
 use Rattle.order.specs.Ordered.{stands, fits, isOrdered}
 use Rattle.order.specs.contracts.Lent.{fitsMarked}
-use Rattle.order.proofs.laws.Marks.{mark-same, mark-other, nothing-marked, not-zero-marked, both-true}
+use Rattle.order.proofs.laws.Marks.{mark-same, mark-other, nothing-marked, both-true}
 use Rattle.order.proofs.laws.Reached.{at-place}
 use Rattle.below.proofs.laws.Among.{member-snoc}
 
@@ -101,7 +101,7 @@ module _ (uses : List ℕ) (n : ℕ) (order : List ℕ) where
 
   module _ (k : ℕ) (marks : List ℕ) (t : Tested k marks) where
     -- marks say whether the next gate fits
-    pub marks-fit : fitsMarked uses marks (getD order k n) ≡ fits uses n (take k order) (getD order k n)
+    marks-fit : fitsMarked uses marks (getD order k n) ≡ fits uses n (take k order) (getD order k n)
     unfolding fitsMarked fits
     marks-fit = ap₂ _&&_ own (ap₂ _&&_ (operand firstOf) (operand secondOf))
       where
@@ -111,7 +111,7 @@ module _ (uses : List ℕ) (n : ℕ) (order : List ℕ) where
         operand : (of : List ℕ → ℕ → ℕ → ℕ) → marked marks (of uses (length marks) (getD order k n)) ≡ stands n (take k order) (of uses n (getD order k n))
         operand of = ap (λ (m : ℕ). marked marks (of uses m (getD order k n))) (t .long) ∙ t .front (of uses n (getD order k n))
 
-    pub tested-next : k < n → length order ≡ n → fits uses n (take k order) (getD order k n) ≡ true → Tested (k + 1) (set marks (getD order k n) 1)
+    tested-next : k < n → length order ≡ n → fits uses n (take k order) (getD order k n) ≡ true → Tested (k + 1) (set marks (getD order k n) 1)
     tested-next h wide e = record { within = omega arith; long = length-set marks (getD order k n) 1 ∙ t .long; front = front; passed = passed }
       where
         next : take (k + 1) order ≡ take k order ++ (getD order k n ∷ [])
@@ -133,7 +133,7 @@ module _ (uses : List ℕ) (n : ℕ) (order : List ℕ) where
             last : (j : ℕ) → j ≡ k → fits uses n (take j order) (getD order j n) ≡ true
             last j q = rw (q, e)
 
-    pub tested-fails : k < n → fits uses n (take k order) (getD order k n) ≡ false → false ≡ isOrdered uses n order
+    tested-fails : k < n → fits uses n (take k order) (getD order k n) ≡ false → false ≡ isOrdered uses n order
     unfolding isOrdered
     tested-fails h e = sym (ap (λ (b : Bool). eqb (length order) n && b) (by (every fitting n) refl) ∙ and-false (eqb (length order) n))
       where

@@ -3,10 +3,10 @@
 use Prim.Native.Nat.{ℕ, zero, suc, _+_, _<_, _≤_}
 use native.Mathlib.Omega.{arith}
 use native.Mathlib.Nat.{le-refl}
-use native.Mathlib.Decide.{ℕ-discrete, decLt}
+use native.Mathlib.Decide.{ℕ-discrete}
 use mathlib.Core.Bool.{Bool, true, false, true≢false}
-use mathlib.Core.List.{List, [], _∷_, _++_}
-use mathlib.Core.Logic.{_⊎_, inl, inr, ⊎-elim}
+use mathlib.Core.List.{List, [], _∷_}
+use mathlib.Core.Logic.{⊎-elim}
 use mathlib.Core.Path.{_≡_, refl, sym, ap, _∙_, subst}
 use lib.ListN.{length, set, length-set, length-append}
 use Rattle.below.specs.Among.{member}
@@ -14,8 +14,8 @@ use Rattle.order.specs.Uses.{Uses, asFirst, asSecond, firstOf, secondOf}
 use Rattle.order.specs.Reaches.{Reaches, atOnce, through}
 use Rattle.order.specs.Placing.{Placing, marked, waits, mark, place, visit}
 use Rattle.order.specs.contracts.Unseen.{unseen}
-use Rattle.order.proofs.laws.Marks.{mark-same, mark-other, mark-grows, waits-below, waits-unmarked, past-stays, stays-marked, unseen-mark}
-use Rattle.order.proofs.laws.Members.{put-cases, put-missing, put-keeps, put-other}
+use Rattle.order.proofs.laws.Marks.{mark-same, mark-other, mark-grows, waits-below, waits-unmarked, stays-marked, unseen-mark}
+use Rattle.order.proofs.laws.Members.{put-cases, put-missing, put-other}
 
 pub data Visit (uses : List ℕ) (n : ℕ) : ℕ → Placing → Placing → Type 0 where
   stays : {i : ℕ} {p : Placing} → waits n (p .marks) i ≡ false → Visit uses n i p p
