@@ -93,8 +93,8 @@ unseen-mark [] i e = absurd (true≢false e)
 unseen-mark (m ∷ ms) zero e = rw (not-false (eqb m 0) e)
 unseen-mark (m ∷ ms) (suc i) e = by (eqb m 0) (unseen-mark ms i e)
   where
-    by : (t : Bool) → unseen ms ≡ suc (unseen (set ms i 1)) → cond t (suc (unseen ms)) (unseen ms) ≡ suc
-        (cond t (suc (unseen (set ms i 1))) (unseen (set ms i 1)))
+    by : (t : Bool) → unseen ms ≡ suc (unseen (set ms i 1))
+        → cond t (suc (unseen ms)) (unseen ms) ≡ suc (cond t (suc (unseen (set ms i 1))) (unseen (set ms i 1)))
     by true h = ap suc h
     by false h = h
 

@@ -27,7 +27,8 @@ loop-less : tie.Need-loop-less Inv-loop μ-loop
 loop-less c = let l = c .before .loop in omega (arith, l .inv .0 .long)
 
 loop-again : tie.Need-loop-again Inv-loop μ-loop
-loop-again c = let l = c .before .loop in
+loop-again c =
+    let l = c .before .loop in
     (filled-next _ _ (l .i) 0 (l .marks) (l .inv .0) (omega (arith, l .inv .0 .long)) refl, omega (arith, l .inv .0 .long))
 
 same-length : tie.Need-same-length Inv-loop μ-loop

@@ -10,18 +10,21 @@ seen-requires : tie.Need-seen-requires
 seen-requires c κs = search needs
 
 mul-operand : tie.Need-mul-operand
-mul-operand c = let s = c .before .before .before .before in omega
-    (arith, unmarked-below (s .args .marks .now) (s .args .gate) (sym (c .before .seen .ensures) ∙ c .if1 .left), s .pre)
+mul-operand c =
+    let s = c .before .before .before .before in
+    omega (arith, unmarked-below (s .args .marks .now) (s .args .gate) (sym (c .before .seen .ensures) ∙ c .if1 .left), s .pre)
 
 operand-requires : tie.Need-operand-requires
-operand-requires c κs = let s = c .before .before .before .before in omega
-    (arith, unmarked-below (s .args .marks .now) (s .args .gate) (sym (c .before .seen .ensures) ∙ c .if1 .left), s .pre)
+operand-requires c κs =
+    let s = c .before .before .before .before in
+    omega (arith, unmarked-below (s .args .marks .now) (s .args .gate) (sym (c .before .seen .ensures) ∙ c .if1 .left), s .pre)
 
 seen-requires-2 : tie.Need-seen-requires-2
 seen-requires-2 c κs = search needs
 
 mul-operand-2 : tie.Need-mul-operand-2
-mul-operand-2 c = let s = c .before .before .before .before .before .before .before in
+mul-operand-2 c =
+    let s = c .before .before .before .before .before .before .before in
     omega (
       arith,
       unmarked-below (s .args .marks .now) (s .args .gate)
@@ -30,7 +33,8 @@ mul-operand-2 c = let s = c .before .before .before .before .before .before .bef
     )
 
 add-operand : tie.Need-add-operand
-add-operand c = let s = c .before .before .before .before .before .before .before in
+add-operand c =
+    let s = c .before .before .before .before .before .before .before in
     omega (
       arith,
       unmarked-below (s .args .marks .now) (s .args .gate)
@@ -39,7 +43,8 @@ add-operand c = let s = c .before .before .before .before .before .before .befor
     )
 
 operand-requires-2 : tie.Need-operand-requires-2
-operand-requires-2 c κs = let s = c .before .before .before .before .before .before .before in
+operand-requires-2 c κs =
+    let s = c .before .before .before .before .before .before .before in
     omega (
       arith,
       unmarked-below (s .args .marks .now) (s .args .gate)
@@ -51,7 +56,9 @@ seen-requires-3 : tie.Need-seen-requires-3
 seen-requires-3 c κs = search needs
 
 returns : tie.Need-returns
-returns c = let s = c .before .before .before .before in marked-fits-not (s .args .uses .now) (s .args .marks .now) (s .args .gate)
+returns c =
+    let s = c .before .before .before .before in
+    marked-fits-not (s .args .uses .now) (s .args .marks .now) (s .args .gate)
     (sym (c .before .seen .ensures) ∙ c .if1 .taken)
 
 returns-2 : tie.Need-returns-2

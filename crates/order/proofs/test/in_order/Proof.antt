@@ -35,7 +35,8 @@ fits-requires : tie.Need-fits-requires Inv-loop μ-loop
 fits-requires c κs = let l = c .before .before .before .loop in omega (arith, l .inv .1, l .inv .0 .long)
 
 slice-write-marks : tie.Need-slice-write-marks Inv-loop μ-loop
-slice-write-marks c = let l = c .before .before .before .before .before in
+slice-write-marks c =
+    let l = c .before .before .before .before .before in
     fits-unmarked (l .before .before .before .before .before .before .before .before .args .uses .now) (l .loop .marks)
     (c .before .before .before .operand .result) (sym (c .before .fits2 .ensures) ∙ c .if1 .taken)
 

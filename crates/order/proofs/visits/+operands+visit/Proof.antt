@@ -52,8 +52,8 @@ operands-operand-requires : (t : ℕ) → operands-lts.Need-operand-requires (
   visit-below t,
   visit.Post,
 ) (operands-at t) operands.Post
-operands-operand-requires t c κs = omega
-    (arith, c .before .before .before .before .before .pre .1 .1 .pairs, c .before .before .before .before .before .pre .1 .0)
+operands-operand-requires t c κs =
+    omega (arith, c .before .before .before .before .before .pre .1 .1 .pairs, c .before .before .before .before .before .pre .1 .0)
 
 operands-visit-requires : (t : ℕ) → operands-lts.Need-visit-requires (
   operand-reads.Asked,
@@ -61,7 +61,8 @@ operands-visit-requires : (t : ℕ) → operands-lts.Need-visit-requires (
   visit-below t,
   visit.Post,
 ) (operands-at t) operands.Post
-operands-visit-requires t c κs = let s = c .before .before .before .before .before .before in
+operands-visit-requires t c κs =
+    let s = c .before .before .before .before .before .before in
     (omega (arith, s .pre .0), room-on _ _ _ _ _ _ _ (s .pre .1 .1) refl refl (omega arith))
 
 operands-mul-operand-2 : (t : ℕ) → operands-lts.Need-mul-operand-2 (
@@ -100,7 +101,8 @@ operands-visit-requires-2 : (t : ℕ) → operands-lts.Need-visit-requires-2 (
   visit-below t,
   visit.Post,
 ) (operands-at t) operands.Post
-operands-visit-requires-2 t c κs = let v = c .before .before .before .before .before .before .before in
+operands-visit-requires-2 t c κs =
+    let v = c .before .before .before .before .before .before .before in
     let s = v .before .before .before .before .before .before .before in (
       omega (arith, s .pre .0, v .visit .ensures .fewer),
       room-on _ _ _ _ _ _ _ (s .pre .1 .1) (v .visit .kept .1 .0) (v .visit .kept .1 .1 .0)
@@ -124,7 +126,9 @@ operands-mul-order : (t : ℕ) → operands-lts.Need-mul-order (
   visit-below t,
   visit.Post,
 ) (operands-at t) operands.Post
-operands-mul-order t c = let w = c .before .before .before .before in let v = w .before .before .before .before .before .before .before .before in
+operands-mul-order t c =
+    let w = c .before .before .before .before in
+    let v = w .before .before .before .before .before .before .before .before in
     omega (
       arith,
       v .before .before .before .before .before .before .before .pre .1 .1 .narrow,
@@ -141,7 +145,9 @@ operands-slice-write-order : (t : ℕ) → operands-lts.Need-slice-write-order (
   visit-below t,
   visit.Post,
 ) (operands-at t) operands.Post
-operands-slice-write-order t c = let w = c .before .before .before .before in let v = w .before .before .before .before .before .before .before .before in
+operands-slice-write-order t c =
+    let w = c .before .before .before .before in
+    let v = w .before .before .before .before .before .before .before .before in
     omega (
       arith,
       v .before .before .before .before .before .before .before .pre .1 .1 .space,
@@ -157,7 +163,9 @@ operands-add-result : (t : ℕ) → operands-lts.Need-add-result (
   visit-below t,
   visit.Post,
 ) (operands-at t) operands.Post
-operands-add-result t c = let w = c .before .before .before .before in let v = w .before .before .before .before .before .before .before .before in
+operands-add-result t c =
+    let w = c .before .before .before .before in
+    let v = w .before .before .before .before .before .before .before .before in
     omega (
       arith,
       v .before .before .before .before .before .before .before .pre .1 .1 .narrow,
@@ -174,7 +182,8 @@ operands-same-length : (t : ℕ) → operands-lts.Need-same-length (
   visit-below t,
   visit.Post,
 ) (operands-at t) operands.Post
-operands-same-length t c = let w = c .before .before .before .before in
+operands-same-length t c =
+    let w = c .before .before .before .before in
     w .visit2 .kept .1 .0 ∙ w .before .before .before .before .before .before .before .before .visit .kept .1 .0
 
 operands-same-length-2 : (t : ℕ) → operands-lts.Need-same-length-2 (
