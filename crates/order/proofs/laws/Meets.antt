@@ -4,7 +4,7 @@ use native.Mathlib.Omega.{arith}
 use mathlib.Core.Bool.{Bool, true, false, true≢false}
 use mathlib.Core.List.{List}
 use mathlib.Core.Logic.{⊎-elim}
-use mathlib.Core.Path.{_≡_, refl, sym, _∙_, subst}
+use mathlib.Core.Path.{_≡_, refl, sym, _∙_}
 use Rattle.below.specs.Among.{among, member}
 use Rattle.below.specs.Least.{least}
 use Rattle.below.proofs.laws.Least.{least-holds, least-before, least-none}
@@ -19,8 +19,7 @@ use Rattle.order.proofs.laws.Visit.{
   Closed,
   visit-is,
   unseen-fewer,
-  marks-grow,
-  visited-marked,
+  operands-marked,
   newly-reached,
   open-before,
   visit-closed,
@@ -69,14 +68,9 @@ module _ (uses : List ℕ) (n i : ℕ) where
   along (atOnce {i = j} {j = k} u) h m = onward j k h m u
   along (through {i = j} {j = l} u r) h m = along r (uses-below u) (onward j l h m u)
 
-  start : (j : ℕ) → Uses uses n i j → marked (both .marks) j ≡ true
-  start j (asFirst h e) = subst (λ (x : ℕ). marked (both .marks) x ≡ true) e
-      (marks-grow to-both (firstOf uses n i) (visited-marked to-first (subst (λ (x : ℕ). x < n) (sym e) h)))
-  start j (asSecond h e) = subst (λ (x : ℕ). marked (both .marks) x ≡ true) e (visited-marked to-both (subst (λ (x : ℕ). x < n) (sym e) h))
-
   reached-marked : {k : ℕ} → Reaches uses n i k → marked (both .marks) k ≡ true
-  reached-marked (atOnce {j = j} u) = start j u
-  reached-marked (through {j = j} u r) = along r (uses-below u) (start j u)
+  reached-marked (atOnce {j = j} u) = operands-marked i to-first to-both j u
+  reached-marked (through {j = j} u r) = along r (uses-below u) (operands-marked i to-first to-both j u)
 
   pub reaches-meets : Reaches uses n i i → meetsItself uses n i ≡ true
   unfolding meetsItself from

@@ -16,7 +16,7 @@ use Rattle.order.specs.Ordered.{Ordered, isOrdered}
 use Rattle.order.specs.Circle.{lowestCircle}
 use Rattle.order.proofs.laws.Marks.{mark-same, mark-other, mark-grows, waits-below, waits-unmarked, past-stays}
 use Rattle.order.proofs.laws.Members.{put-cases, member-dec}
-use Rattle.order.proofs.laws.Visit.{Visit, stays, goes, visit-stays, marks-grow, visited-marked, open-before, open-after}
+use Rattle.order.proofs.laws.Visit.{Visit, stays, goes, visit-stays, marks-grow, operands-marked, open-before, open-after}
 use Rattle.order.proofs.laws.Meets.{uses-below, below-lowest, no-circle-lowest}
 use Rattle.order.proofs.laws.Grown.{Fits, Grown, grown-put, grown-ordered, test-ordered, ordered-test}
 use Rattle.order.proofs.laws.Placed.{visits-next, visits-whole, placed-length}
@@ -54,17 +54,12 @@ module _ (uses : List ℕ) (n : ℕ) where
       fresh : Sound p → member i (p .order) ≡ false
       fresh s = ⊎-elim (λ m. absurd (true≢false (sym (s .marks i m) ∙ waits-unmarked n (p .marks) i waiting))) (λ o. o) (member-dec (p .order) i)
 
-      operand-marked : (j : ℕ) → Uses uses n i j → marked (r .marks) j ≡ true
-      operand-marked j (asFirst h e) = subst (λ (x : ℕ). marked (r .marks) x ≡ true) e
-          (marks-grow w (firstOf uses n i) (visited-marked v (subst (λ (x : ℕ). x < n) (sym e) h)))
-      operand-marked j (asSecond h e) = subst (λ (x : ℕ). marked (r .marks) x ≡ true) e (visited-marked w (subst (λ (x : ℕ). x < n) (sym e) h))
-
       operand-placed : (j : ℕ) → Uses uses n i j → member j (r .order) ≡ true
       unfolding Opens
       operand-placed j u = ⊎-elim (λ m. m) (λ o. absurd (circle o)) (member-dec (r .order) j)
         where
           circle : member j (r .order) ≡ false → ⊥
-          circle o = let was = open-before w j (operand-marked j u) o in never j (uses-below u) (open-second j u j (uses-below u) (was .0) (was .1))
+          circle o = let was = open-before w j (operands-marked i v w j u) o in never j (uses-below u) (open-second j u j (uses-below u) (was .0) (was .1))
 
       sound-placed : Sound p → Sound r → Sound (place i r)
       sound-placed s t = record {

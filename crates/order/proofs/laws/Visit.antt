@@ -104,21 +104,24 @@ module _ {uses : List ℕ} {n : ℕ} where
   visit-stays (stays e) s = refl
   visit-stays (goes e v w) s = absurd (true≢false (sym e ∙ s))
 
+  -- the operands of a gate are marked when both were visited
+  pub operands-marked : (i : ℕ) {p q r : Placing} → Visit uses n (firstOf uses n i) p q → Visit uses n (secondOf uses n i) q r
+      → (k : ℕ) → Uses uses n i k → marked (r .marks) k ≡ true
+  operands-marked i {r = r} v w k (asFirst h s) = subst (λ (x : ℕ). marked (r .marks) x ≡ true) s
+      (marks-grow w (firstOf uses n i) (visited-marked v (subst (λ (x : ℕ). x < n) (sym s) h)))
+  operands-marked i {r = r} v w k (asSecond h s) = subst (λ (x : ℕ). marked (r .marks) x ≡ true) s
+      (visited-marked w (subst (λ (x : ℕ). x < n) (sym s) h))
+
   -- the operands of a gate that is placed are marked
   pub visit-closed : {i : ℕ} {p q : Placing} → Visit uses n i p q → Closed uses n p → Closed uses n q
   visit-closed (stays e) c = c
   visit-closed (goes {i = i} {p = p} {q = q} {r = r} e v w) c = by (λ x. visit-closed v x) (λ x. visit-closed w x)
     where
-      own : (k : ℕ) → Uses uses n i k → marked (r .marks) k ≡ true
-      own k (asFirst h s) = subst (λ (x : ℕ). marked (r .marks) x ≡ true) s
-          (marks-grow w (firstOf uses n i) (visited-marked v (subst (λ (x : ℕ). x < n) (sym s) h)))
-      own k (asSecond h s) = subst (λ (x : ℕ). marked (r .marks) x ≡ true) s (visited-marked w (subst (λ (x : ℕ). x < n) (sym s) h))
-
       by : (Closed uses n (mark i p) → Closed uses n q) → (Closed uses n q → Closed uses n r) → Closed uses n (place i r)
       by one two =
           let end = two (one (record { operands = λ j k m u. mark-grows (p .marks) i k (c .operands j k m u) })) in
           record {
-            operands = λ j k m u. ⊎-elim (λ old. end .operands j k old u) (λ same. own k (subst (λ (x : ℕ). Uses uses n x k) same u))
+            operands = λ j k m u. ⊎-elim (λ old. end .operands j k old u) (λ same. operands-marked i v w k (subst (λ (x : ℕ). Uses uses n x k) same u))
                 (put-cases (r .order) i j m);
           }
 
