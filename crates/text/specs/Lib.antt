@@ -5,6 +5,7 @@ pub mod Header
 pub mod Rules
 pub mod Section
 pub mod Symbol
+pub mod GateUses
 pub mod TextFile
 pub mod Stages
 pub mod Read
@@ -19,6 +20,7 @@ pub mod LineIs
 pub mod LineFault
 pub mod FirstFault
 pub mod Unknown
+pub mod Circle
 pub mod SymbolRight
 pub mod NoSymbol
 pub mod BodyBroken
