@@ -1,0 +1,5 @@
+pub mod Uses
+pub mod Reaches
+pub mod Placing
+pub mod Ordered
+pub mod Circle
