@@ -3,3 +3,4 @@ pub mod Reaches
 pub mod Placing
 pub mod Ordered
 pub mod Circle
+pub mod Place

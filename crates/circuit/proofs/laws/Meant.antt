@@ -26,7 +26,7 @@ use Rattle.below.proofs.laws.Table.{table-same, table-getD}
 use Rattle.bits.specs.Bit.{oneIf}
 use Rattle.circuit.specs.Circuit.{Circuit, Input, Latch, Gate}
 use Rattle.circuit.specs.Limits.{base}
-use Rattle.circuit.specs.Stored.{literalOf, inputsOf, latchesOf, gatesOf, lent, meant, padded, stored}
+use Rattle.circuit.specs.Stored.{literalOf, inputsOf, latchesOf, gatesOf, lent, onLines, meant, padded, stored}
 use Rattle.circuit.proofs.laws.StoredLiteral.{literal-small}
 
 -- padding adds nothing but zeros
