@@ -1,5 +1,6 @@
 pub mod Alarms
 pub mod Used
+pub mod Circle
 pub mod Outcome
 pub mod Lists
 pub mod Run
