@@ -4,11 +4,12 @@ use Prim.Native.Nat.{ℕ, zero, suc, _+_, _<_}
 use native.Mathlib.Omega.{arith}
 use native.Mathlib.Nat.{not-suc-le-zero, le-of-suc-le-suc}
 use mathlib.Core.Bool.{Bool, true, false}
-use mathlib.Core.List.{List, [], _∷_}
-use mathlib.Core.Path.{_≡_, refl, sym}
-use lib.ListN.{length, getD}
+use mathlib.Core.List.{List, [], _∷_, _++_, map}
+use mathlib.Core.Path.{_≡_, refl, sym, ap, _∙_}
+use lib.ListN.{length, getD, replicate}
 use Rattle.circuit.specs.Outcome.{Outcome, taken, refused, refuseIf}
 use Rattle.text.specs.InList.{All, In}
+use Rattle.text.specs.Kind.{Kind, anInput, usedBy, usedByAll}
 use Rattle.text.specs.Numbers.{notDefined}
 use Rattle.text.specs.Rules.{anyUnknown}
 use Rattle.text.specs.Section.{used}
@@ -80,3 +81,26 @@ unknown-used defined start ls number place k = rw (k .seven) (go ls (k .index) s
         rw (any-unknown-says defined m .1 (k .literal, f, k .fault)) (let here : s ≡ place = omega (arith, l) in λ x. refused notDefined (here x))
     go (m ∷ ms) (suc i) s h l e f =
         rw (all-known-is defined m (e zero (omega arith))) (go ms i (suc s) (le-of-suc-le-suc h) (omega (arith, l)) (λ j q. e (suc j) (omega (arith, q))) f)
+
+-- what lines of one kind use, and lines of one kind before others
+pub used-section : (k : Kind) (n : ℕ) (rows : List (List ℕ)) → length rows ≡ n → usedByAll (replicate n k) rows ≡ map (usedBy k) rows
+used-section k zero [] e = refl
+used-section k zero (fs ∷ rows) e = absurd (omega (arith, e))
+used-section k (suc n) [] e = absurd (omega (arith, e))
+used-section k (suc n) (fs ∷ rows) e = ap {B = List (List ℕ)} (λ r. usedBy k fs ∷ r) (used-section k n rows (omega (arith, e)))
+
+pub used-join : (k : Kind) (js : List Kind) (n : ℕ) (rows more : List (List ℕ)) → length rows ≡ n
+    → usedByAll (replicate n k ++ js) (rows ++ more) ≡ map (usedBy k) rows ++ usedByAll js more
+used-join k js zero [] more e = refl
+used-join k js zero (fs ∷ rows) more e = absurd (omega (arith, e))
+used-join k js (suc n) [] more e = absurd (omega (arith, e))
+used-join k js (suc n) (fs ∷ rows) more e = ap {B = List (List ℕ)} (λ r. usedBy k fs ∷ r) (used-join k js n rows more (omega (arith, e)))
+
+-- inputs use nothing
+pub used-inputs : (defined : List ℕ) (rows ls : List (List ℕ)) (n start : ℕ) → length rows ≡ n
+    → used defined start (map (usedBy anInput) rows ++ ls) ≡ used defined (start + n) ls
+unfolding used refuseIf anyUnknown
+used-inputs defined [] ls n start e = ap (λ (at : ℕ). used defined at ls) (omega (arith, e))
+used-inputs defined (fs ∷ rows) ls zero start e = absurd (omega (arith, e))
+used-inputs defined (fs ∷ rows) ls (suc n) start e =
+    used-inputs defined rows ls n (suc start) (omega (arith, e)) ∙ ap (λ (at : ℕ). used defined at ls) (let s : suc start + n ≡ start + suc n = omega arith in s)
