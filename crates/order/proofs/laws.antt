@@ -4,3 +4,6 @@ pub mod Members
 pub mod Visit
 pub mod Meets
 pub mod Grown
+pub mod Placed
+pub mod NoCircle
+pub mod Reached

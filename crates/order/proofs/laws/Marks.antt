@@ -73,6 +73,10 @@ pub zero-unmarked : (marks : List ℕ) (i : ℕ) → getD marks i 1 ≡ 0 → ma
 unfolding marked
 zero-unmarked marks i e = rw e
 
+pub not-zero-marked : (marks : List ℕ) (i : ℕ) → ¬ (getD marks i 1 ≡ 0) → marked marks i ≡ true
+unfolding marked
+not-zero-marked marks i d = ap not (ne-eqb (getD marks i 1) 0 d)
+
 pub nothing-marked : (n i : ℕ) → i < n → marked (table (λ j. 0) n) i ≡ false
 nothing-marked n i h = zero-unmarked (table (λ j. 0) n) i (getD-table {A = ℕ} (λ j. 0) n i 1 h)
 
