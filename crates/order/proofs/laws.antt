@@ -5,5 +5,6 @@ pub mod Visit
 pub mod Meets
 pub mod Grown
 pub mod Placed
+pub mod Place
 pub mod NoCircle
 pub mod Reached
