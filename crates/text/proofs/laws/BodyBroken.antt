@@ -1,12 +1,12 @@
 -- The lines behind the header are refused exactly at the first fault in the order of document 01 ("The numbers": lines in file order; 02, T-01:
 -- then 7 for what they use; then 16; then symbol lines): everything before that fault is right. Assumes nothing.
-use Prim.Native.Nat.{ℕ, zero, suc, _+_, _≤_}
+use Prim.Native.Nat.{ℕ, _+_, _≤_}
 use native.Mathlib.Omega.{arith}
 use mathlib.Core.List.{List, [], _∷_, _++_, map, append-assoc}
 use mathlib.Core.Logic.{_⊎_, inl, inr}
 use mathlib.Core.Path.{_≡_, refl, sym, ap, _∙_, subst}
 use lib.ListN.{length, drop, replicate, length-append, length-replicate}
-use lib.Seq.{drop-drop}
+use lib.Seq.{drop-drop, drop-at}
 use Rattle.circuit.specs.Outcome.{Outcome, taken, refused}
 use Rattle.text.specs.BodyBroken.{gatesOn, WellUsed, BodyBroken, inLines, inUse, inCircle, inSymbols}
 use Rattle.text.specs.Circle.{Circle}
@@ -45,13 +45,6 @@ use Rattle.text.proofs.laws.NoSymbol.{symbols-broken, broken-symbols}
 use Rattle.text.proofs.laws.Outcome.{taken-is-not-refused, bind-refused, then-refused}
 use Rattle.text.proofs.laws.Stages.{fileOf, behindCircle, behindLate, behindGates, behindOutput, behindLatches, behindInputs}
 use Rattle.text.proofs.laws.Used.{used-known, known-used, used-unknown, unknown-used, used-section, used-join, used-inputs}
-
-module _ {A : Type 0} where
-  drop-front : (n : ℕ) (xs ys : List A) → length xs ≡ n → drop n (xs ++ ys) ≡ ys
-  drop-front zero [] ys e = refl
-  drop-front zero (x ∷ xs) ys e = absurd (omega (arith, e))
-  drop-front (suc n) [] ys e = absurd (omega (arith, e))
-  drop-front (suc n) (x ∷ xs) ys e = drop-front n xs ys (omega (arith, e))
 
 module _ (h : Header) (rest : List (List ℕ)) where
   -- the kinds behind the output, the latches and the inputs
@@ -225,7 +218,7 @@ module _ (h : Header) (rest : List (List ℕ)) where
         omega (arith, length-append ins (lats ++ outs), length-append lats outs, inputs-long, latches-long, output-long) in
         let whole : allRows ≡ front ++ gs =
         ap {B = List (List ℕ)} (λ r. ins ++ r) (sym (append-assoc lats outs gs)) ∙ sym (append-assoc ins (lats ++ outs) gs) in
-        ap (λ (r : List (List ℕ)). gatesOn h r) whole ∙ ap (map gateOf) (drop-front (h .inputs + h .latches + 1) front gs long)
+        ap (λ (r : List (List ℕ)). gatesOn h r) whole ∙ ap (map gateOf) (drop-at front gs (h .inputs + h .latches + 1) long)
 
     circle-all : circleStage h (bodyG ins lats outs gs) ≡ circled (3 + h .inputs + h .latches) (gatesOn h allRows)
     circle-all = ap (circled (3 + h .inputs + h .latches)) (sym gates-all)

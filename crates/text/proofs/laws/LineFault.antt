@@ -1,8 +1,7 @@
 -- What is wrong with a line (01, "The numbers", 4 to 6): the tests say what the statements say, and a line is refused with a number exactly if it
 -- is that of its fault, in the order within a line. Assumes nothing.
-use Prim.Native.Nat.{ℕ, zero, suc, _+_, _*_, _%_, _<_, _≤_}
+use Prim.Native.Nat.{ℕ, suc, _+_, _*_, _%_, _<_, _≤_}
 use native.Mathlib.Omega.{arith}
-use native.Mathlib.Nat.{not-suc-le-zero, le-of-suc-le-suc}
 use mathlib.Core.Bool.{Bool, true, false, cond, _||_, true≢false}
 use mathlib.Core.List.{List, [], _∷_}
 use mathlib.Core.Logic.{_⊎_, inl, inr, _↔_}
@@ -25,7 +24,7 @@ use Rattle.text.specs.Section.{judged}
 use Rattle.text.specs.WellFormed.{Defining, Known}
 use Rattle.text.specs.Written.{numberLine}
 use Rattle.text.proofs.laws.Line.{numbers-line, numbers-is, none-is-not-some}
-use Rattle.text.proofs.laws.Lists.{neither, either, member-in, in-member}
+use Rattle.text.proofs.laws.Lists.{neither, either, in-at, all-in, member-in, in-member}
 use Rattle.text.proofs.laws.Rules.{not-too-large, good-own, known-of, known-is, all-known-of}
 
 -- a test that says a statement, where it fails
@@ -83,16 +82,6 @@ some-numbers theOutput = (0, refl)
 some-numbers aGate = (2, refl)
 
 -- 5
-in-at : (fs : List ℕ) (i : ℕ) → i < length fs → In fs (getD fs i 0)
-in-at [] i h = absurd (not-suc-le-zero h)
-in-at (x ∷ fs) zero h = inl refl
-in-at (x ∷ fs) (suc i) h = inr (in-at fs i (le-of-suc-le-suc h))
-
-all-in : (P : ℕ → Type 0) (xs : List ℕ) (l : ℕ) → All P xs → In xs l → P l
-all-in P [] l a i = absurd i
-all-in P (x ∷ xs) l a (inl e) = subst P e (a .0)
-all-in P (x ∷ xs) l a (inr i) = all-in P xs l (a .1) i
-
 too-large-is : (M l : ℕ) → tooLarge M l ≡ true → 2 * M + 1 < l
 unfolding tooLarge
 too-large-is M l e = ltb-true (2 * M + 1) l e
@@ -110,21 +99,21 @@ own-bad M k fs l here own e = by (tooLarge M l) (eqb (l % 2) 0) (leb 2 l) refl r
     by false true true f g h = absurd (true≢false (sym (rw (f, g, h) at e)))
 
 five-true : (k : Kind) (M : ℕ) (fs : List ℕ) → length fs ≡ numbersIn k → fiveOf k M fs ≡ true → BadLiteral M k fs
-five-true anInput M fs n e = own-bad M anInput fs (getD fs 0 0) (in-at fs 0 (omega (arith, n))) (inl refl) e
+five-true anInput M fs n e = own-bad M anInput fs (getD fs 0 0) (in-at 0 fs 0 (omega (arith, n))) (inl refl) e
 five-true aLatch M fs n e =
     elim (either (badOwn M (getD fs 0 0)) (tooLarge M (getD fs 1 0)) e) [
-      | inl f ↦ own-bad M aLatch fs (getD fs 0 0) (in-at fs 0 (omega (arith, n))) (inl refl) f
-      | inr f ↦ large (getD fs 1 0) (in-at fs 1 (omega (arith, n))) (too-large-is M (getD fs 1 0) f)
+      | inl f ↦ own-bad M aLatch fs (getD fs 0 0) (in-at 0 fs 0 (omega (arith, n))) (inl refl) f
+      | inr f ↦ large (getD fs 1 0) (in-at 0 fs 1 (omega (arith, n))) (too-large-is M (getD fs 1 0) f)
     ]
-five-true theOutput M fs n e = large (getD fs 0 0) (in-at fs 0 (omega (arith, n))) (too-large-is M (getD fs 0 0) e)
+five-true theOutput M fs n e = large (getD fs 0 0) (in-at 0 fs 0 (omega (arith, n))) (too-large-is M (getD fs 0 0) e)
 five-true aGate M fs n e =
     elim (either (badOwn M (getD fs 0 0) || tooLarge M (getD fs 1 0)) (tooLarge M (getD fs 2 0)) e) [
       | inl f ↦
           elim (either (badOwn M (getD fs 0 0)) (tooLarge M (getD fs 1 0)) f) [
-            | inl g ↦ own-bad M aGate fs (getD fs 0 0) (in-at fs 0 (omega (arith, n))) (inl refl) g
-            | inr g ↦ large (getD fs 1 0) (in-at fs 1 (omega (arith, n))) (too-large-is M (getD fs 1 0) g)
+            | inl g ↦ own-bad M aGate fs (getD fs 0 0) (in-at 0 fs 0 (omega (arith, n))) (inl refl) g
+            | inr g ↦ large (getD fs 1 0) (in-at 0 fs 1 (omega (arith, n))) (too-large-is M (getD fs 1 0) g)
           ]
-      | inr f ↦ large (getD fs 2 0) (in-at fs 2 (omega (arith, n))) (too-large-is M (getD fs 2 0) f)
+      | inr f ↦ large (getD fs 2 0) (in-at 0 fs 2 (omega (arith, n))) (too-large-is M (getD fs 2 0) f)
     ]
 
 abbrev Small : ℕ → ℕ → Type 0
