@@ -12,6 +12,7 @@ pub mod Rules
 pub mod Symbol
 pub mod SymbolRule
 pub mod Lines
+pub mod GateUses
 pub mod Complete
 pub mod Stages
 pub mod Sound
