@@ -13,6 +13,10 @@ pub mod Symbol
 pub mod SymbolRule
 pub mod Lines
 pub mod GateUses
+pub mod Above
+pub mod InTurn
+pub mod Standing
+pub mod GateOrder
 pub mod Complete
 pub mod Stages
 pub mod Sound

@@ -21,7 +21,7 @@ use Rattle.text.specs.WellFormed.{ReachesItself}
 use Rattle.text.proofs.laws.Outcome.{taken-is-not-refused, refuse-none, refused-number, refused-place}
 
 -- what is reached is a gate
-reaches-below : {uses : List ℕ} {n i j : ℕ} → Reaches uses n i j → j < n
+pub reaches-below : {uses : List ℕ} {n i j : ℕ} → Reaches uses n i j → j < n
 reaches-below (atOnce u) = uses-below u
 reaches-below (through u r) = reaches-below r
 

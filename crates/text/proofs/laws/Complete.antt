@@ -3,7 +3,6 @@ use Prim.Native.Nat.{ℕ, suc, _+_, _^_}
 use native.Mathlib.Omega.{arith}
 use mathlib.Core.Bool.{true}
 use mathlib.Core.List.{List, [], _∷_, _++_, map, append-nil}
-use mathlib.Core.Logic.{_≢_}
 use mathlib.Core.Path.{_≡_, refl, sym, ap, _∙_}
 use lib.ListN.{length, getD, length-map}
 use borrow.Author.Tests.{le-ltb}
@@ -29,7 +28,7 @@ use Rattle.text.specs.Written.{numberLine, textOf}
 use Rattle.text.proofs.laws.Circle.{none-circled}
 use Rattle.text.proofs.laws.Header.{headerFor, header-numbers, within-of}
 use Rattle.text.proofs.laws.Lines.{bodyLines, behindText, lines-text}
-use Rattle.text.proofs.laws.Lists.{all-append, all-weaker, all-map, pairs-left, pairs-fresh}
+use Rattle.text.proofs.laws.Lists.{Differ, all-append, all-weaker, all-map, pairs-left, pairs-fresh}
 use Rattle.text.proofs.laws.Rules.{inputRow, latchRow, gateRow, inputs-fine, latches-fine, output-fine, gates-fine, news-items}
 use Rattle.text.proofs.laws.Section.{AllFine, section-fine}
 use Rattle.text.proofs.laws.Symbol.{symbol-lines-good}
@@ -65,9 +64,6 @@ ofLatches f = map (λ (l : Latch). variable (l .own)) (f .latches)
 
 abbrev ofGates : TextFile → List ℕ
 ofGates f = map (λ (g : Gate). variable (g .own)) (f .gates)
-
-abbrev Differ : ℕ → ℕ → Type 0
-Differ v u = v ≢ u
 
 module _ (limits : Limits) (f : TextFile) (w : WellFormed limits f) where
   inputs-taken : section (inputRule (f .largest)) (length (f .inputs)) 2

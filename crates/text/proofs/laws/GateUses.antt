@@ -17,6 +17,9 @@ use Rattle.circuit.specs.Literal.{variable, constant}
 use Rattle.order.specs.Uses.{Uses, asFirst, asSecond, firstOf, secondOf}
 use Rattle.text.specs.GateUses.{definer, usesOf}
 
+abbrev pub noGate : Gate
+noGate = record { own = 0; left = 0; right = 0 }
+
 abbrev pub gateVariable : Gate → ℕ
 gateVariable g = variable (g .own)
 
@@ -88,11 +91,11 @@ module _ (a b : Gate → ℕ) (d : Gate) where
 module _ (gates : List Gate) (i : ℕ) (h : i < length gates) where
   first-used : firstOf (usesOf gates) (length gates) i ≡ definer gates (gateAt gates i .left)
   unfolding usesOf gateAt two-each
-  first-used = first-at (λ g. definer gates (g .left)) (λ g. definer gates (g .right)) (record { own = 0; left = 0; right = 0 }) gates i (length gates) h
+  first-used = first-at (λ g. definer gates (g .left)) (λ g. definer gates (g .right)) noGate gates i (length gates) h
 
   second-used : secondOf (usesOf gates) (length gates) i ≡ definer gates (gateAt gates i .right)
   unfolding usesOf gateAt two-each
-  second-used = second-at (λ g. definer gates (g .left)) (λ g. definer gates (g .right)) (record { own = 0; left = 0; right = 0 }) gates i (length gates) h
+  second-used = second-at (λ g. definer gates (g .left)) (λ g. definer gates (g .right)) noGate gates i (length gates) h
 
   -- an operand that a gate defines is used
   pub left-used : (j : ℕ) → Defines gates (gateAt gates i .left) j → definer gates (gateAt gates i .left) ≡ j → Uses (usesOf gates) (length gates) i j

@@ -132,6 +132,10 @@ module _ {A : Type 0} where
   map-in g (x ∷ xs) b (inl e) = (x, inl refl, e)
   map-in g (x ∷ xs) b (inr w) = let (a, v, e) = map-in g xs b w in (a, inr v, e)
 
+  pub all-are : (P : A → Type 0) (xs : List A) → ((a : A) → In xs a → P a) → All P xs
+  all-are P [] w = tt
+  all-are P (x ∷ xs) w = (w x (inl refl), all-are P xs (λ a i. w a (inr i)))
+
   -- two of a list, and one of each of two lists
   pub pairs-at : (R : A → A → Type 0) (d : A) (xs : List A) (i j : ℕ) → Pairs R xs → i < j → j < length xs → R (getD xs i d) (getD xs j d)
   pairs-at R d [] i j p h k = absurd (not-suc-le-zero k)
@@ -147,6 +151,24 @@ module _ {A : Type 0} where
   pub pairs-right : (R : A → A → Type 0) (xs ys : List A) → Pairs R (xs ++ ys) → Pairs R ys
   pairs-right R [] ys p = p
   pairs-right R (x ∷ xs) ys p = pairs-right R xs ys (p .1)
+
+  pub all-of : (P : A → Type 0) (d : A) (xs : List A) → ((i : ℕ) → i < length xs → P (getD xs i d)) → All P xs
+  all-of P d [] w = tt
+  all-of P d (x ∷ xs) w = (w zero (omega arith), all-of P d xs (λ i h. w (suc i) (omega (arith, h))))
+
+  pub pairs-of : (R : A → A → Type 0) (d : A) (xs : List A) → ((i j : ℕ) → i < j → j < length xs → R (getD xs i d) (getD xs j d)) → Pairs R xs
+  pairs-of R d [] w = tt
+  pairs-of R d (x ∷ xs) w = (
+    all-of (R x) d xs (λ i h. w zero (suc i) (omega arith) (omega (arith, h))),
+    pairs-of R d xs (λ i j h k. w (suc i) (suc j) (omega (arith, h)) (omega (arith, k))),
+  )
+
+  pub pairs-append : (R : A → A → Type 0) (xs ys : List A) → Pairs R xs → Pairs R ys → ((a b : A) → In xs a → In ys b → R a b) → Pairs R (xs ++ ys)
+  pairs-append R [] ys p q w = q
+  pairs-append R (x ∷ xs) ys p q w = (
+    all-append (R x) xs ys (p .0) (all-are (R x) ys (λ b v. w x b (inl refl) v)),
+    pairs-append R xs ys (p .1) q (λ a b u v. w a b (inr u) v),
+  )
 
   -- the same in the library's words
   pub mem-in : (xs : List A) (a : A) → List·Memᴰ a xs → In xs a
@@ -171,6 +193,9 @@ module _ {A : Type 0} where
   unfolding among
   none-among p [] a = refl
   none-among p (x ∷ xs) a = neither-of (p x) (among p xs) (a .0) (none-among p xs (a .1))
+
+abbrev pub Differ : ℕ → ℕ → Type 0
+Differ v w = v ≢ w
 
 -- a member stands in the list
 pub member-in : (v : ℕ) (vs : List ℕ) → member v vs ≡ true → In vs v
