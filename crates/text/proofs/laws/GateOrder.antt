@@ -12,7 +12,7 @@ use Rattle.text.specs.InList.{All, Pairs, In}
 use Rattle.text.specs.TextFile.{TextFile, circuitOf}
 use Rattle.text.specs.WellFormed.{Known, ReachesItself, ofInputsAndLatches, definedIn}
 use Rattle.text.proofs.laws.GateUses.{gateVariable}
-use Rattle.text.proofs.laws.InTurn.{turn-long, lines-back, same-members, turn-defines, turn-above, turn-once}
+use Rattle.text.proofs.laws.InTurn.{turn-long, lines-back, turn-all, same-members, turn-defines, turn-above, turn-once}
 use Rattle.text.proofs.laws.Lists.{Differ}
 use Rattle.text.proofs.laws.Standing.{standing-no-circle, standing-as-before}
 
@@ -32,6 +32,10 @@ module _ (f : TextFile) (never : (i : ℕ) → ReachesItself (f .gates) i → �
   pub same-gates : (g : Gate) → List·Memᴰ g (circuitOf f .gates) ↔ List·Memᴰ g (f .gates)
   unfolding circuitOf
   same-gates = same-members (f .gates) never
+
+  pub gates-all : (P : Gate → Type 0) → All P (f .gates) → All P (circuitOf f .gates)
+  unfolding circuitOf
+  gates-all P a = turn-all (f .gates) never P a
 
   -- each gate stands behind those that it uses
   pub gates-above : All (λ (g : Gate). Known (definedIn f) (g .left) × Known (definedIn f) (g .right)) (f .gates)

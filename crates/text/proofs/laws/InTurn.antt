@@ -27,6 +27,7 @@ use Rattle.text.proofs.laws.Lists.{
   in-at,
   at-in,
   all-in,
+  all-are,
   in-left,
   in-right,
   in-cases,
@@ -85,6 +86,9 @@ module _ (gates : List Gate) (never : (i : ℕ) → ReachesItself gates i → �
       let (i, h, e) = at-in noGate gates g w in
       let (k, below, is) = ordered .each i h in
       subst (In (inTurn gates)) (at-turn k ∙ ap (gateAt gates) is ∙ e) (in-at noGate (inTurn gates) k (omega (arith, below, turn-long)))
+
+  pub turn-all : (P : Gate → Type 0) → All P gates → All P (inTurn gates)
+  turn-all P a = all-are P (inTurn gates) (λ g i. all-in P gates g a (turn-in g i))
 
   pub same-members : (g : Gate) → List·Memᴰ g (inTurn gates) ↔ List·Memᴰ g gates
   same-members g = (λ m. in-mem gates g (turn-in g (mem-in (inTurn gates) g m)), λ m. in-mem (inTurn gates) g (in-turn g (mem-in gates g m)))
