@@ -27,6 +27,7 @@ pub mod NoSymbol
 pub mod BodyBroken
 pub mod FaultLine
 pub mod Exact
+pub mod SameCircuit
 pub mod PrintedSymbols
 pub mod Size
 pub mod PrintedReadsBack

@@ -3,11 +3,10 @@ use Prim.Native.Nat.{ℕ, zero, suc, _<_}
 use native.Mathlib.Omega.{arith}
 use native.Mathlib.Nat.{not-suc-le-zero, le-of-suc-le-suc}
 use mathlib.Core.List.{List, [], _∷_}
-use mathlib.Core.Path.{_≡_, refl, sym, _∙_}
+use mathlib.Core.Path.{_≡_, refl, _∙_}
 use lib.Dec.{eqb}
 use lib.ListN.{length, getD}
 use borrow.Author.Tests.{eqb-true, eq-eqb}
-use Rattle.below.specs.Least.{least, any}
 use Rattle.below.proofs.laws.Least.{least-holds, any-of, any-least}
 use Rattle.order.specs.Ordered.{Ordered}
 use Rattle.order.specs.Place.{placeIn}

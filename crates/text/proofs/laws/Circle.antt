@@ -4,7 +4,7 @@ use native.Mathlib.Omega.{arith}
 use native.Mathlib.Decide.{decLt}
 use mathlib.Core.Bool.{Bool, true, false}
 use mathlib.Core.List.{List}
-use mathlib.Core.Path.{_≡_, refl, sym, subst}
+use mathlib.Core.Path.{_≡_, refl, sym}
 use lib.Dec.{ltb}
 use lib.ListN.{length}
 use borrow.Author.Tests.{ltb-true, ltb-false, lt-ltb, le-ltb}
@@ -12,7 +12,7 @@ use Rattle.circuit.specs.Circuit.{Gate}
 use Rattle.circuit.specs.Outcome.{Outcome, taken, refused, refuseIf}
 use Rattle.order.specs.Circle.{lowestCircle}
 use Rattle.order.specs.Reaches.{Reaches, atOnce, through}
-use Rattle.order.proofs.laws.Meets.{uses-below, lowest-reaches, below-lowest, lowest-most, no-circle-lowest}
+use Rattle.order.proofs.laws.Meets.{uses-below, lowest-reaches, below-lowest, no-circle-lowest}
 use Rattle.text.specs.Circle.{Circle}
 use Rattle.text.specs.GateUses.{usesOf}
 use Rattle.text.specs.Numbers.{gateCircle}

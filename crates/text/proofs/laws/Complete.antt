@@ -121,11 +121,13 @@ module _ (limits : Limits) (f : TextFile) (w : WellFormed limits f) where
       (all-append AllKnown usedLatches ((f .output ∷ []) ∷ usedGates)
       (all-map AllKnown (usedBy aLatch) (map latchRow (f .latches))
       (all-map (λ (fs : List ℕ). AllKnown (usedBy aLatch fs)) latchRow (f .latches)
-      (all-weaker (λ (l : Latch). Known (definedIn f) (l .next)) (λ (l : Latch). AllKnown (l .next ∷ [])) (λ l k. (k, tt)) (f .latches) (w .nexts))))
-      ((w .error, tt), all-map AllKnown (usedBy aGate) (map gateRow (f .gates))
-      (all-map (λ (fs : List ℕ). AllKnown (usedBy aGate fs)) gateRow (f .gates)
-      (all-weaker (λ (g : Gate). Known (definedIn f) (g .left) × Known (definedIn f) (g .right)) (λ (g : Gate). AllKnown (g .left ∷ g .right ∷ []))
-      (λ g k. (k .0, (k .1, tt))) (f .gates) (w .operands)))))
+      (all-weaker (λ (l : Latch). Known (definedIn f) (l .next)) (λ (l : Latch). AllKnown (l .next ∷ [])) (λ l k. (k, tt)) (f .latches) (w .nexts)))) (
+        (w .error, tt),
+        all-map AllKnown (usedBy aGate) (map gateRow (f .gates))
+            (all-map (λ (fs : List ℕ). AllKnown (usedBy aGate fs)) gateRow (f .gates)
+            (all-weaker (λ (g : Gate). Known (definedIn f) (g .left) × Known (definedIn f) (g .right)) (λ (g : Gate). AllKnown (g .left ∷ g .right ∷ []))
+            (λ g k. (k .0, (k .1, tt))) (f .gates) (w .operands))),
+      ))
 
   gates-back : map gateOf (map gateRow (f .gates)) ≡ f .gates
   unfolding gateOf

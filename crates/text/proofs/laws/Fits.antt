@@ -3,9 +3,8 @@ use Prim.Native.Nat.{ℕ, zero, suc, _+_, _*_, _≤_}
 use native.Mathlib.Omega.{arith}
 use mathlib.Core.Bool.{false}
 use mathlib.Core.List.{List, [], _∷_, map}
-use mathlib.Core.Path.{_≡_, refl, sym, ap, _∙_, subst}
+use mathlib.Core.Path.{_≡_, refl, sym, _∙_, subst}
 use lib.ListN.{length, getD, List·getD-eq-default}
-use Rattle.below.specs.Table.{table}
 use Rattle.below.proofs.laws.Table.{length-table, map-table, table-getD}
 use Rattle.circuit.specs.Circuit.{Circuit, Input, Latch, Gate, tooMany}
 use Rattle.circuit.specs.Limits.{base}

@@ -8,7 +8,7 @@ use lib.ListN.{length}
 use Rattle.circuit.specs.Circuit.{Gate, gateLines}
 use Rattle.circuit.specs.Literal.{variable}
 use Rattle.text.specs.Above.{Operands}
-use Rattle.text.specs.InList.{All, Pairs, In}
+use Rattle.text.specs.InList.{All, Pairs}
 use Rattle.text.specs.TextFile.{TextFile, circuitOf}
 use Rattle.text.specs.WellFormed.{Known, ReachesItself, ofInputsAndLatches, definedIn}
 use Rattle.text.proofs.laws.GateUses.{gateVariable}

@@ -9,7 +9,7 @@ use mathlib.Core.List.{List, [], _∷_, flatMap}
 use mathlib.Core.Path.{_≡_, refl, sym, ap, _∙_, subst}
 use lib.Dec.{eqb, ltb}
 use lib.ListN.{length, getD}
-use borrow.Author.Tests.{ltb-true, ltb-false, le-ltb, eqb-true, eq-eqb}
+use borrow.Author.Tests.{ltb-false, le-ltb, eqb-true, eq-eqb}
 use Rattle.below.specs.Least.{least}
 use Rattle.below.proofs.laws.Least.{least-holds, least-before}
 use Rattle.circuit.specs.Circuit.{Gate, gateAt}

@@ -1,16 +1,15 @@
 -- Printing is read back (01, "The numbers", last paragraph): what is printed of a circuit that was read is read as that circuit, and is at most
 -- 15,157 bytes long. Assumes nothing.
-use Prim.Native.Nat.{ℕ, zero, suc, _<_, _≤_}
+use Prim.Native.Nat.{ℕ, _<_, _≤_}
 use native.Mathlib.Omega.{arith}
 use native.Mathlib.Nat.{zero-add}
 use mathlib.Core.Bool.{false}
-use mathlib.Core.List.{List, [], _∷_, _++_, map}
+use mathlib.Core.List.{List, [], _∷_, map}
 use mathlib.Core.Option.{none}
-use mathlib.Core.Path.{_≡_, refl, sym, ap, ap₂, _∙_, subst}
+use mathlib.Core.Path.{_≡_, refl, sym, ap, _∙_, subst}
 use lib.ListN.{length, getD, length-map, List·getD-map}
 use lib.Seq.{ext-getD}
-use Rattle.below.specs.Table.{table}
-use Rattle.below.proofs.laws.Table.{length-table, getD-table}
+use Rattle.below.proofs.laws.Table.{length-table, getD-table, table-same}
 use Rattle.circuit.specs.Circuit.{Circuit, Input, tooMany}
 use Rattle.circuit.specs.Limits.{base}
 use Rattle.circuit.specs.Outcome.{taken}
@@ -52,11 +51,6 @@ printed-line f s h a =
       bytes = rw (a .name) (all-append (λ b. (32 ≤ b) × (b ≤ 126)) prefix (decimal (s .position)) prefix-bytes
           (digit-bytes (decimal (s .position)) (decimal-each (s .position))));
     }
-
-table-same : {A : Type 0} (f g : ℕ → A) (n : ℕ) → ((i : ℕ) → i < n → f i ≡ g i) → table f n ≡ table g n
-unfolding table
-table-same f g zero e = refl
-table-same {A} f g (suc n) e = ap₂ {C = List A} (λ a b. a ++ (b ∷ [])) (table-same f g n (λ i h. e i (omega arith))) (e n (omega arith))
 
 abbrev noInput : Input
 noInput = record { own = 0; controllable = false }
