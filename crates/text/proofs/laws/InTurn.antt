@@ -145,7 +145,9 @@ module _ (gates : List Gate) (never : (i : ℕ) → ReachesItself gates i → �
     turn-above known = operands-of sources (inTurn gates) (λ k h. subst (Both k) (sym (at-turn k)) (both k (omega (arith, h, turn-long))))
       where
         Both : ℕ → Gate → Type 0
-        Both k g = Known (sources ++ map gateVariable (take k (inTurn gates))) (g .left) × Known (sources ++ map gateVariable (take k (inTurn gates))) (g .right)
+        Both k g =
+            Known (sources ++ map gateVariable (take k (inTurn gates))) (g .left)
+            × Known (sources ++ map gateVariable (take k (inTurn gates))) (g .right)
 
         both : (k : ℕ) → k < n → Both k (gateAt gates (getD (evaluation gates) k n))
         both k h =

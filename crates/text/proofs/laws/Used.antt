@@ -103,4 +103,5 @@ unfolding used refuseIf anyUnknown
 used-inputs defined [] ls n start e = ap (λ (at : ℕ). used defined at ls) (omega (arith, e))
 used-inputs defined (fs ∷ rows) ls zero start e = absurd (omega (arith, e))
 used-inputs defined (fs ∷ rows) ls (suc n) start e =
-    used-inputs defined rows ls n (suc start) (omega (arith, e)) ∙ ap (λ (at : ℕ). used defined at ls) (let s : suc start + n ≡ start + suc n = omega arith in s)
+    let same : suc start + n ≡ start + suc n = omega arith in
+    used-inputs defined rows ls n (suc start) (omega (arith, e)) ∙ ap (λ (at : ℕ). used defined at ls) same
