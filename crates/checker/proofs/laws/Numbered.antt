@@ -1,8 +1,9 @@
--- A refused check has a number of the table, and that is never 0: 1 to 9 for the file, 11 to 15 for the certificate. Assumes nothing.
+-- A refused check has a number of the table, and that is never 0: 1 to 9 and 16 for the file, 11 to 15 for the certificate. Assumes nothing.
 use Prim.Native.Nat.{ℕ, _*_, _≤_}
 use native.Mathlib.Omega.{arith}
 use mathlib.Core.Bool.{Bool, true, false, not}
 use mathlib.Core.List.{List}
+use mathlib.Core.Logic.{_⊎_, inl, inr}
 use mathlib.Core.Option.{Option, none, some}
 use mathlib.Core.Path.{_≡_, refl, sym}
 use lib.Dec.{ltb}
@@ -19,18 +20,18 @@ use Rattle.checker.specs.Check.{acceptedKinds, orBadShape, tablesChecked
 use Rattle.checker.specs.Numbers.{badShape, otherCircuit, badTable, badReset, brokenStep}
 use Rattle.checker.specs.Rules.{badReplyTables, badAttackTable, resetOutside, resetUnranked, brokenReply, brokenAttack}
 
--- whatever refuses gives a number from 1 to 15
+-- whatever refuses gives a number from 1 to 16
 abbrev Numbered : {A : Type 0} → Outcome A → Type 0
-Numbered o = (number place : ℕ) → o ≡ refused number place → (1 ≤ number) × (number ≤ brokenStep)
+Numbered o = (number place : ℕ) → o ≡ refused number place → (1 ≤ number) × (number ≤ 16)
 
 module _ {A : Type 0} where
   taken-numbered : (a : A) → Numbered (taken a)
   taken-numbered a number place e = absurd (refused-is-not-taken number place a (sym e))
 
-  refused-numbered : (n p : ℕ) → 1 ≤ n → n ≤ brokenStep → Numbered {A = A} (refused n p)
+  refused-numbered : (n p : ℕ) → 1 ≤ n → n ≤ 16 → Numbered {A = A} (refused n p)
   refused-numbered n p low high number place e = let same : n ≡ number = cc in (omega arith, omega arith)
 
-  test-numbered : (t : Bool) (n p : ℕ) (next : Outcome A) → 1 ≤ n → n ≤ brokenStep → Numbered next → Numbered (refuseIf t n p >> next)
+  test-numbered : (t : Bool) (n p : ℕ) (next : Outcome A) → 1 ≤ n → n ≤ 16 → Numbered next → Numbered (refuseIf t n p >> next)
   unfolding refuseIf
   test-numbered true n p next low high rest = refused-numbered n p low high
   test-numbered false n p next low high rest = rest
@@ -40,7 +41,11 @@ bind-numbered (taken a) f first rest = rest a
 bind-numbered (refused n p) f first rest = let (low, high) = first n p refl in refused-numbered n p low high
 
 reading-numbered : (file : List ℕ) → Numbered (circuitIn file)
-reading-numbered file number place e = let (low, high) = file-numbered file number place e in (low, omega (arith, high))
+reading-numbered file number place e = let (low, high) = file-numbered file number place e in (low, by high)
+  where
+    by : (number ≤ 9) ⊎ (number ≡ 16) → number ≤ 16
+    by (inl h) = omega (arith, h)
+    by (inr h) = omega (arith, h)
 
 shape-numbered : (o : Option Tables) → Numbered (orBadShape o)
 unfolding orBadShape
@@ -67,7 +72,7 @@ whole-numbered file certificate =
     (λ c. bind-numbered (orBadShape (tablesOf acceptedKinds certificate)) _ (shape-numbered (tablesOf acceptedKinds certificate))
     (λ t. test-numbered (not (sameBytes (circuitPart t) file)) otherCircuit 0 (tablesChecked c t) (omega arith) (omega arith) (tables-numbered c t)))
 
-pub check-numbered : (file certificate : List ℕ) (number place : ℕ) → answerOf file certificate ≡ refused number place → (1 ≤ number) × (number ≤ brokenStep)
+pub check-numbered : (file certificate : List ℕ) (number place : ℕ) → answerOf file certificate ≡ refused number place → (1 ≤ number) × (number ≤ 16)
 unfolding answerOf
 check-numbered file certificate =
     bind-numbered (circuitIn file) _ (reading-numbered file)

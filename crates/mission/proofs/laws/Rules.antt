@@ -149,26 +149,26 @@ printer-refuses-exactly file before after r number place w = print-refused-exact
 -- A refusal's number is one of the table's, and never 0.
 pub reader-numbered :
     (file : List ℕ) (r : FileRead) (number place : ℕ) → ReadAs (circuitIn file) r → readOutcome (r .answer) ≡ refused number place
-    → (1 ≤ number) × (number ≤ 9)
+    → (1 ≤ number) × ((number ≤ 9) ⊎ (number ≡ 16))
 reader-numbered file r number place w e = file-numbered file number place (reader-refused-exactly file r number place w .0 e)
 
 pub checker-numbered :
     (file certificate : List ℕ) (a : Checked) (number place : ℕ) → checkedOutcome a ≡ answerOf file certificate
     → checkedOutcome a ≡ refused number place
-    → (1 ≤ number) × (number ≤ 15)
+    → (1 ≤ number) × (number ≤ 16)
 checker-numbered file certificate a number place w e = check-numbered file certificate number place (sym w ∙ e)
 
 pub writer-numbered :
     (file before after : List ℕ) (r : Certified) (number place : ℕ) → CertifiedAs file (circuitIn file) before after r
     → certifiedOutcome r ≡ refused number place
-    → (1 ≤ number) × (number ≤ 10)
+    → (1 ≤ number) × ((number ≤ 10) ⊎ (number ≡ 16))
 writer-numbered file before after r number place w e = row-numbered file (certificateOf file) (length before) number place
     (certify-refused-exactly file before after r number place w .0 e)
 
 pub printer-numbered :
     (file before after : List ℕ) (r : Written) (number place : ℕ) → WrittenAs (filePrinted file (length before)) before after r
     → writtenOutcome r ≡ refused number place
-    → (1 ≤ number) × (number ≤ 10)
+    → (1 ≤ number) × ((number ≤ 10) ⊎ (number ≡ 16))
 printer-numbered file before after r number place w e = row-numbered file printed (length before) number place
     (print-refused-exactly file before after r number place w .0 e)
 
