@@ -6,6 +6,7 @@ pub mod Fuel
 pub mod Meets
 pub mod Grown
 pub mod Placed
+pub mod Place
 pub mod NoCircle
 pub mod Reached
 pub mod Tested
