@@ -1,1 +1,10 @@
 pub mod Alarms
+pub mod Marks
+pub mod Members
+pub mod Visit
+pub mod Meets
+pub mod Grown
+pub mod Placed
+pub mod Place
+pub mod NoCircle
+pub mod Reached

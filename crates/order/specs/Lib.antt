@@ -4,3 +4,4 @@ pub mod Placing
 pub mod Ordered
 pub mod Circle
 pub mod Place
+pub mod contracts

@@ -1,1 +1,2 @@
 // The order in which gates are evaluated (02, T-01): each behind the gates that define its operands.
+mod visits;

@@ -12,6 +12,7 @@ pub mod Read
 pub mod Written
 pub mod InList
 pub mod WellFormed
+pub mod Above
 pub mod Printed
 pub mod Headed
 pub mod Within
