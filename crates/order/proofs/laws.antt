@@ -8,3 +8,8 @@ pub mod Placed
 pub mod Place
 pub mod NoCircle
 pub mod Reached
+pub mod Tested
+pub mod Going
+pub mod Met
+pub mod Answer
+pub mod Gates

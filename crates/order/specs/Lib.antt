@@ -4,4 +4,5 @@ pub mod Placing
 pub mod Ordered
 pub mod Circle
 pub mod Place
+pub mod Answer
 pub mod contracts

@@ -29,7 +29,10 @@ place gate p = record { marks = p .marks; order = p .order ++ (gate ∷ []) }
 unfoldable pub visit : List ℕ → (n fuel gate : ℕ) → Placing → Placing
 visit uses n zero gate p = p
 visit uses n (suc fuel) gate p =
-    elim (waits n (p .marks) gate) [ true ↦ place gate (visit uses n fuel (secondOf uses n gate) (visit uses n fuel (firstOf uses n gate) (mark gate p))) | false ↦ p ]
+    elim (waits n (p .marks) gate) [
+      | true ↦ place gate (visit uses n fuel (secondOf uses n gate) (visit uses n fuel (firstOf uses n gate) (mark gate p)))
+      | false ↦ p
+    ]
 
 abbrev pub nothing : ℕ → Placing
 nothing n = record { marks = table (λ i. 0) n; order = [] }

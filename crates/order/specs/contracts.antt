@@ -1,2 +1,3 @@
 pub mod Unseen
 pub mod Visited
+pub mod Lent

@@ -1,0 +1,16 @@
+-- What is answered of gates (02, T-01): that they are in order, or the lowest that reaches itself. Assumes nothing.
+use Prim.Native.Nat.{ℕ, min, _/_}
+use mathlib.Core.Bool.{cond}
+use mathlib.Core.List.{List}
+use lib.Dec.{ltb}
+use lib.ListN.{length}
+use Rattle.order.specs.Circle.{lowestCircle}
+use Rattle.order.specs.declared.Placed.{Placed}
+use Rattle.order.specs.declared.Placed.the-variants.{InOrder, Circle}
+
+unfoldable pub answerOf : List ℕ → ℕ → Placed
+answerOf uses n = cond (ltb (lowestCircle uses n) n) (Circle (lowestCircle uses n)) InOrder
+
+-- how many gates are spoken of: as many as all three lists have room for
+abbrev pub gatesIn : (uses marks order : List ℕ) → ℕ
+gatesIn uses marks order = min (min (length uses / 2) (length marks)) (min (length order) 65535)
