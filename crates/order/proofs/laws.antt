@@ -2,6 +2,7 @@ pub mod Alarms
 pub mod Marks
 pub mod Members
 pub mod Visit
+pub mod Fuel
 pub mod Meets
 pub mod Grown
 pub mod Placed

@@ -11,11 +11,11 @@ use circles::lowest_circle;
 use marks::clear;
 use placing::place;
 use test::in_order;
-ghost use mathlib.Core.List.{_++_};
+ghost use Prim.Native.Nat.{min, _/_};
 ghost use mathlib.Core.Path.{_≡_};
-ghost use lib.ListN.{length, drop};
+ghost use lib.ListN.{length};
 ghost use Rattle.below.specs.Table.{table};
-ghost use Rattle.order.specs.Answer.{answerOf, gatesIn};
+ghost use Rattle.order.specs.Answer.{answerOf, gatesIn, marksAfter, placesAfter};
 ghost use Rattle.order.specs.Placing.{orderOf};
 ghost use Rattle.order.specs.contracts.Lent.{Lent};
 
@@ -28,18 +28,17 @@ pub enum Placed {
 // Places as many gates as there are numbers, marks and places for; what lies behind isn't touched. The marks are 0 then.
 pub fn order_of(uses: &[u16], marks: &mut [u8], order: &mut [u16]) -> Placed
     ensures answer { λ r. ⌜ r ≡ answerOf (now (uses .entry)) (gatesIn (now (uses .entry)) (now (marks .entry)) (now (order .entry))) ⌝ }
-    ensures places { λ _. ⌜ now (order .exit)
-        ≡ orderOf (now (uses .entry)) (gatesIn (now (uses .entry)) (now (marks .entry)) (now (order .entry)))
-        ++ drop (gatesIn (now (uses .entry)) (now (marks .entry)) (now (order .entry))) (now (order .entry)) ⌝ }
-    ensures marks { λ _. ⌜ now (marks .exit)
-        ≡ table (λ i. 0) (gatesIn (now (uses .entry)) (now (marks .entry)) (now (order .entry)))
-        ++ drop (gatesIn (now (uses .entry)) (now (marks .entry)) (now (order .entry))) (now (marks .entry)) ⌝ }
+    ensures places { λ _. ⌜ now (order .exit) ≡ placesAfter (now (uses .entry)) (now (marks .entry)) (now (order .entry)) ⌝ }
+    ensures marks { λ _. ⌜ now (marks .exit) ≡ marksAfter (now (uses .entry)) (now (marks .entry)) (now (order .entry)) ⌝ }
 {
-    let n = fewer(
-        fewer(uses.len() / 2, marks.len()),
-        fewer(order.len(), 65535),
-    );
+    let n = gates_in(uses.len(), marks.len(), order.len());
     judge(uses, &mut marks[..n], &mut order[..n])
+}
+
+fn gates_in(uses: usize, marks: usize, order: usize) -> usize
+    ensures { λ r. ⌜ r ≡ min (min (uses / 2) marks) (min order 65535) ⌝ }
+{
+    fewer(fewer(uses / 2, marks), fewer(order, 65535))
 }
 
 fn judge(uses: &[u16], marks: &mut [u8], order: &mut [u16]) -> Placed

@@ -33,10 +33,12 @@ same-length-2 c = search needs
 
 returns : tie.Need-returns
 returns c =
+    let c8 = c .before .before .before .before .before .before .before .before in
+    let c16 = c8 .before .before .before .before .before .before .before .before in
     let k = c .before .before .clear in
     let t = c .before .before .before .before .before .before .before .in-order in
-    let p = c .before .before .before .before .before .before .before .before .before .before .before .before .before .before .place in
-    let s = c .before .before .before .before .before .before .before .before .before .before .before .before .before .before .before .before .before .before .before .before in (
+    let p = c8 .before .before .before .before .before .before .place in
+    let s = c16 .before .before .before .before in (
       tested-in-order (s .args .uses .now) _ _ _ (p .kept .1 .0) (p .ensures) (t .result) (t .ensures) (c .before .before .before .before .if1 .taken),
       (p .ensures, k .ensures ∙ ap (table (λ i. 0)) (t .kept .1 .0 ∙ p .kept .1 .0)),
     )
@@ -49,14 +51,19 @@ same-length-4 c = search needs
 
 returns-2 : tie.Need-returns-2
 returns-2 c =
+    let c8 = c .before .before .before .before .before .before .before .before in
+    let c16 = c8 .before .before .before .before .before .before .before .before in
+    let c24 = c16 .before .before .before .before .before .before .before .before in
+    let c32 = c24 .before .before .before .before .before .before .before .before in
     let k = c .before .before .clear2 in
-    let q = c .before .before .before .before .before .before .before .before .place2 in
-    let l = c .before .before .before .before .before .before .before .before .before .before .before .before .before .before .before .lowest-circle in
-    let t = c .before .before .before .before .before .before .before .before .before .before .before .before .before .before .before .before .before .before .before .before .before .in-order in
-    let p = c .before .before .before .before .before .before .before .before .before .before .before .before .before .before .before .before .before .before .before .before .before .before .before .before .before .before .before .before .place in
-    let s = c .before .before .before .before .before .before .before .before .before .before .before .before .before .before .before .before .before .before .before .before .before .before .before .before .before .before .before .before .before .before .before .before .before .before in
+    let q = c8 .place2 in
+    let l = c8 .before .before .before .before .before .before .before .lowest-circle in
+    let t = c16 .before .before .before .before .before .in-order in
+    let p = c24 .before .before .before .before .place in
+    let s = c32 .before .before in
     let long = t .kept .1 .0 ∙ p .kept .1 .0 in (
-      tested-circle (s .args .uses .now) _ _ _ (p .kept .1 .0) (p .ensures) (t .result) (t .ensures) (c .before .before .before .before .before .before .before .before .before .before .before .before .before .before .before .before .before .before .if1 .left) (l .result) _ long (l .ensures),
+      tested-circle (s .args .uses .now) _ _ _ (p .kept .1 .0) (p .ensures) (t .result) (t .ensures) (c16 .before .before .if1 .left) (l .result) _ long
+          (l .ensures),
       (q .ensures ∙ ap (orderOf (s .args .uses .now)) (l .kept .1 .0 ∙ long), k .ensures ∙ ap (table (λ i. 0)) (q .kept .1 .0 ∙ l .kept .1 .0 ∙ long)),
     )
 

@@ -1,17 +1,16 @@
 -- The loop that visits all gates in turn: after k of them marks and places are those of the definition. Assumes nothing.
-use Prim.Native.Nat.{ℕ, zero, suc, _+_, _*_, _<_, _≤_}
+use Prim.Native.Nat.{ℕ, _+_, _*_, _<_, _≤_}
 use native.Mathlib.Omega.{arith}
 use native.Mathlib.Numerals.{add-one}
 use mathlib.Core.List.{List}
-use mathlib.Core.Path.{_≡_, refl, sym, ap, _∙_}
-use lib.ListN.{length, take}
+use mathlib.Core.Path.{_≡_, sym, ap, _∙_}
+use lib.ListN.{length}
 use lib.Seq.{take-all}
 use Rattle.below.specs.Table.{table}
 use Rattle.below.proofs.laws.Table.{length-table}
 use Rattle.order.specs.Placing.{Placing, visit, nothing, visits, placed, orderOf}
 use Rattle.order.specs.contracts.Unseen.{unseen}
 use Rattle.order.specs.contracts.Visited.{Room, Visited, placingOf}
-use Rattle.order.specs.contracts.Lent.{Lent}
 use Rattle.order.proofs.laws.Placed.{unseen-all, placed-all}
 
 pub record Going (uses : List ℕ) (n k : ℕ) (marks order : List ℕ) (count : ℕ) : Type 0 where
@@ -39,9 +38,15 @@ module _ (uses : List ℕ) (n : ℕ) where
 
   module _ (k : ℕ) (marks order : List ℕ) (count : ℕ) (g : Going uses n k marks order count) where
     pub going-room : Room uses marks order (count + unseen marks)
-    going-room = record { pairs = omega (arith, g .pairs, g .long); small = omega (arith, g .small, g .long); narrow = omega (arith, g .small, g .wide); space = omega (arith, g .counts, g .wide) }
+    going-room = record {
+      pairs = omega (arith, g .pairs, g .long);
+      small = omega (arith, g .small, g .long);
+      narrow = omega (arith, g .small, g .wide);
+      space = omega (arith, g .counts, g .wide);
+    }
 
-    pub going-next : (after placed : List ℕ) (r : ℕ) → k < n → length after ≡ length marks → length placed ≡ length order → Visited uses marks order k count after placed r → Going uses n (k + 1) after placed r
+    pub going-next : (after placed : List ℕ) (r : ℕ) → k < n → length after ≡ length marks → length placed ≡ length order
+        → Visited uses marks order k count after placed r → Going uses n (k + 1) after placed r
     unfolding visits
     going-next after placed r h long wide v =
         record {
@@ -51,7 +56,8 @@ module _ (uses : List ℕ) (n : ℕ) where
           long = long ∙ g .long;
           wide = wide ∙ g .wide;
           counts = v .counts ∙ g .counts;
-          same = ap (visits uses n) (add-one k) ∙ ap (visit uses n n k) (g .same) ∙ ap (λ (m : ℕ). visit uses m n k (placingOf marks order count)) (sym (g .long)) ∙ v .same n (omega (arith, g .counts));
+          same = ap (visits uses n) (add-one k) ∙ ap (visit uses n n k) (g .same)
+              ∙ ap (λ (m : ℕ). visit uses m n k (placingOf marks order count)) (sym (g .long)) ∙ v .same n (omega (arith, g .counts));
         }
 
     pub going-end : n ≤ k → order ≡ orderOf uses n

@@ -1,15 +1,14 @@
 -- An order that grows gate by gate: each fits behind those in front of it. Such an order of n gates is an order of evaluation, and the test
 -- says so. Assumes nothing.
-use Prim.Native.Nat.{ℕ, zero, suc, _+_, _<_, _≤_}
+use Prim.Native.Nat.{ℕ, zero, suc, _<_, _≤_}
 use native.Mathlib.Omega.{arith}
-use native.Mathlib.Decide.{decLt, ℕ-discrete}
-use native.Mathlib.Nat.{not-suc-le-zero}
+use native.Mathlib.Decide.{decLt}
 use mathlib.Core.Bool.{Bool, true, false, not, _&&_, _||_, true≢false}
 use mathlib.Core.List.{List, [], _∷_, _++_}
 use mathlib.Core.Path.{_≡_, refl, sym, ap, _∙_, subst, subst₂}
 use lib.Dec.{eqb, ltb, leb}
 use lib.ListN.{length, getD, take, length-append, List·getD-append}
-use lib.Seq.{take-append-le, take-at, take-all, take-suc, getD-at}
+use lib.Seq.{take-append-le, take-at, take-suc, getD-at}
 use borrow.Author.Tests.{ltb-true, leb-true, eqb-true, eq-eqb, lt-ltb, le-leb, not-true}
 use Rattle.below.specs.Among.{member}
 use Rattle.below.specs.Least.{every}
@@ -46,7 +45,7 @@ gate-stands n front j m = elim (decLt j n) [ yes h ↦ by (leb n j) (m h) | no h
     by false q = q
 
 module _ (uses : List ℕ) (n : ℕ) (front : List ℕ) (gate : ℕ) where
-  pub fits-true : fits uses n front gate ≡ true → Fits uses n front gate
+  fits-true : fits uses n front gate ≡ true → Fits uses n front gate
   unfolding fits
   fits-true e = record { within = ltb-true gate n (own .0); fresh = not-true (member gate front) (own .1); behind = behind }
     where
@@ -63,14 +62,22 @@ module _ (uses : List ℕ) (n : ℕ) (front : List ℕ) (gate : ℕ) where
       behind j (asFirst h s) = stands-gate n front j (subst (λ (x : ℕ). stands n front x ≡ true) s (operands .0)) h
       behind j (asSecond h s) = stands-gate n front j (subst (λ (x : ℕ). stands n front x ≡ true) s (operands .1)) h
 
-  pub true-fits : Fits uses n front gate → fits uses n front gate ≡ true
+  true-fits : Fits uses n front gate → fits uses n front gate ≡ true
   unfolding fits
-  true-fits f = rw (lt-ltb gate n (f .within), f .fresh, gate-stands n front (firstOf uses n gate) (λ h. f .behind (firstOf uses n gate) (asFirst h refl)), gate-stands n front (secondOf uses n gate) (λ h. f .behind (secondOf uses n gate) (asSecond h refl)))
+  true-fits f = rw (
+    lt-ltb gate n (f .within),
+    f .fresh,
+    gate-stands n front (firstOf uses n gate) (λ h. f .behind (firstOf uses n gate) (asFirst h refl)),
+    gate-stands n front (secondOf uses n gate) (λ h. f .behind (secondOf uses n gate) (asSecond h refl)),
+  )
 
 module _ (uses : List ℕ) (n : ℕ) where
   -- one more gate at the end
   pub grown-put : (order : List ℕ) (gate : ℕ) → Grown uses n order → Fits uses n order gate → Grown uses n (order ++ (gate ∷ []))
-  grown-put order gate grown f k h = elim (decLt k (length order)) [ yes l ↦ subst₂ (Fits uses n) (sym (take-append-le k order (gate ∷ []) (omega arith))) (sym (List·getD-append order (gate ∷ []) n k l)) (grown k l) | no l ↦ last (omega (arith, length-append order (gate ∷ []))) ]
+  grown-put order gate grown f k h = elim (decLt k (length order)) [
+    | yes l ↦ subst₂ (Fits uses n) (sym (take-append-le k order (gate ∷ []) (omega arith))) (sym (List·getD-append order (gate ∷ []) n k l)) (grown k l)
+    | no l ↦ last (omega (arith, length-append order (gate ∷ [])))
+  ]
     where
       last : length order ≡ k → Fits uses n (take k (order ++ (gate ∷ []))) (getD (order ++ (gate ∷ [])) k n)
       last e = subst₂ (Fits uses n) (sym (take-at order (gate ∷ []) k e)) (sym (getD-at order gate [] n k e)) f
@@ -94,7 +101,11 @@ module _ (uses : List ℕ) (n : ℕ) where
         here = place-member order (suc k) k (getD order k n) n (omega arith) (omega arith) refl
 
         more : k ≤ count (λ j. member j (take k order)) n → suc k ≤ count (λ j. member j (take (suc k) order)) n
-        more ih = omega (arith, count-grows (λ j. member j (take k order)) (λ j. member j (take (suc k) order)) n (getD order k n) keeps (at .within) (at .fresh) here)
+        more ih = omega (
+          arith,
+          count-grows (λ j. member j (take k order)) (λ j. member j (take (suc k) order)) n (getD order k n) keeps (at .within)
+              (at .fresh) here,
+        )
 
     pub grown-ordered : Ordered uses n order
     grown-ordered = record { long = long; within = λ k h. grown k (omega arith) .within; each = each; once = once; before = before }
@@ -106,12 +117,13 @@ module _ (uses : List ℕ) (n : ℕ) where
         apart k m h l e = true≢false (sym (place-member order m k (getD order m n) n h (omega arith) e) ∙ grown m (omega arith) .fresh)
 
         once : (k m : ℕ) → k < n → m < n → getD order k n ≡ getD order m n → k ≡ m
-        once k m h l e = elim (decLt k m) [ yes a ↦ absurd (apart k m a l e) | no a ↦ elim (decLt m k) [ yes b ↦ absurd (apart m k b h (sym e)) | no b ↦ omega arith ] ]
+        once k m h l e = elim (decLt k m)
+            [ yes a ↦ absurd (apart k m a l e) | no a ↦ elim (decLt m k) [ yes b ↦ absurd (apart m k b h (sym e)) | no b ↦ omega arith ] ]
 
         before : (k j : ℕ) → k < n → Uses uses n (getD order k n) j → (m : ℕ) × (m < k) × (getD order m n ≡ j)
         before k j h u = member-place order k j n (grown k (omega arith) .behind j u)
 
-  pub ordered-grown : (order : List ℕ) → Ordered uses n order → Grown uses n order
+  ordered-grown : (order : List ℕ) → Ordered uses n order → Grown uses n order
   ordered-grown order o k h = record { within = o .within k low; fresh = fresh (member (getD order k n) (take k order)) refl; behind = behind }
     where
       low : k < n
@@ -127,7 +139,9 @@ module _ (uses : List ℕ) (n : ℕ) where
   -- the test is the statement
   pub test-ordered : (order : List ℕ) → isOrdered uses n order ≡ true → Ordered uses n order
   unfolding isOrdered
-  test-ordered order e = grown-ordered order (λ k h. fits-true uses n (take k order) (getD order k n) (every-at (λ k. fits uses n (take k order) (getD order k n)) n k (parts .1) (omega (arith, long)))) long
+  test-ordered order e = grown-ordered order
+      (λ k h. fits-true uses n (take k order) (getD order k n)
+      (every-at (λ k. fits uses n (take k order) (getD order k n)) n k (parts .1) (omega (arith, long)))) long
     where
       parts : (eqb (length order) n ≡ true) × (every (λ k. fits uses n (take k order) (getD order k n)) n ≡ true)
       parts = both-true (eqb (length order) n) (every (λ k. fits uses n (take k order) (getD order k n)) n) e
@@ -137,4 +151,8 @@ module _ (uses : List ℕ) (n : ℕ) where
 
   pub ordered-test : (order : List ℕ) → Ordered uses n order → isOrdered uses n order ≡ true
   unfolding isOrdered
-  ordered-test order o = rw (eq-eqb (length order) n (o .long), every-of (λ k. fits uses n (take k order) (getD order k n)) n (λ k h. true-fits uses n (take k order) (getD order k n) (ordered-grown order o k (omega (arith, o .long)))))
+  ordered-test order o = rw (
+    eq-eqb (length order) n (o .long),
+    every-of (λ k. fits uses n (take k order) (getD order k n)) n
+        (λ k h. true-fits uses n (take k order) (getD order k n) (ordered-grown order o k (omega (arith, o .long)))),
+  )

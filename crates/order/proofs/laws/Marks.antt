@@ -1,5 +1,5 @@
 -- What holds of marks: marking a gate marks it and no other; how many are left unmarked. Assumes nothing.
-use Prim.Native.Nat.{ℕ, zero, suc, _+_, _<_, _≤_}
+use Prim.Native.Nat.{ℕ, zero, suc, _<_, _≤_}
 use native.Mathlib.Omega.{arith}
 use native.Mathlib.Decide.{decLt, ℕ-discrete}
 use native.Mathlib.Nat.{le-refl}
@@ -9,7 +9,7 @@ use mathlib.Core.Path.{_≡_, refl, sym, ap, _∙_}
 use lib.Dec.{eqb, ltb}
 use lib.ListN.{length, getD, set, length-set, List·getD-eq-default}
 use lib.Seq.{getD-set-same, getD-set-other}
-use borrow.Author.Tests.{ltb-true, ltb-false, lt-ltb, le-ltb, eqb-true, eqb-false, eq-eqb, ne-eqb, not-true, not-false}
+use borrow.Author.Tests.{ltb-true, lt-ltb, le-ltb, ne-eqb, not-true, not-false}
 use Rattle.below.specs.Table.{table}
 use Rattle.below.proofs.laws.Table.{getD-table, length-table}
 use Rattle.order.specs.Placing.{marked, waits}
@@ -23,7 +23,8 @@ both-true false b e = absurd (true≢false (sym e))
 module _ (marks : List ℕ) (i : ℕ) where
   pub mark-same : marked (set marks i 1) i ≡ true
   unfolding marked
-  mark-same = elim (decLt i (length marks)) [ yes h ↦ rw (getD-set-same marks i 1 1 h) | no h ↦ rw (List·getD-eq-default (set marks i 1) 1 {n = i} (omega (arith, length-set marks i 1))) ]
+  mark-same = elim (decLt i (length marks))
+      [ yes h ↦ rw (getD-set-same marks i 1 1 h) | no h ↦ rw (List·getD-eq-default (set marks i 1) 1 {n = i} (omega (arith, length-set marks i 1))) ]
 
   pub mark-other : (j : ℕ) → ¬ (j ≡ i) → marked (set marks i 1) j ≡ marked marks j
   unfolding marked
@@ -65,10 +66,6 @@ module _ (n : ℕ) (marks : List ℕ) (i : ℕ) where
       by false m = absurd (true≢false (sym (unmarked-waits h m) ∙ e))
 
 -- a mark in numbers
-pub marked-one : (marks : List ℕ) (i : ℕ) → marked marks i ≡ false → getD marks i 1 ≡ 0
-unfolding marked
-marked-one marks i e = eqb-true (getD marks i 1) 0 (not-false (eqb (getD marks i 1) 0) e)
-
 pub zero-unmarked : (marks : List ℕ) (i : ℕ) → getD marks i 1 ≡ 0 → marked marks i ≡ false
 unfolding marked
 zero-unmarked marks i e = rw e
@@ -96,7 +93,8 @@ unseen-mark [] i e = absurd (true≢false e)
 unseen-mark (m ∷ ms) zero e = rw (not-false (eqb m 0) e)
 unseen-mark (m ∷ ms) (suc i) e = by (eqb m 0) (unseen-mark ms i e)
   where
-    by : (t : Bool) → unseen ms ≡ suc (unseen (set ms i 1)) → cond t (suc (unseen ms)) (unseen ms) ≡ suc (cond t (suc (unseen (set ms i 1))) (unseen (set ms i 1)))
+    by : (t : Bool) → unseen ms ≡ suc (unseen (set ms i 1))
+        → cond t (suc (unseen ms)) (unseen ms) ≡ suc (cond t (suc (unseen (set ms i 1))) (unseen (set ms i 1)))
     by true h = ap suc h
     by false h = h
 

@@ -1,20 +1,31 @@
 -- Visiting a gate's operands from nothing meets it exactly if it reaches itself (02, T-01). Assumes nothing.
-use Prim.Native.Nat.{ℕ, _<_, _≤_}
+use Prim.Native.Nat.{ℕ, _<_}
 use native.Mathlib.Omega.{arith}
 use mathlib.Core.Bool.{Bool, true, false, true≢false}
 use mathlib.Core.List.{List}
 use mathlib.Core.Logic.{⊎-elim}
-use mathlib.Core.Path.{_≡_, refl, sym, _∙_, subst}
+use mathlib.Core.Path.{_≡_, refl, sym, _∙_}
 use Rattle.below.specs.Among.{among, member}
 use Rattle.below.specs.Least.{least}
-use Rattle.below.proofs.laws.Least.{least-le, least-holds, least-before, least-none}
+use Rattle.below.proofs.laws.Least.{least-holds, least-before, least-none}
 use Rattle.order.specs.Uses.{Uses, asFirst, asSecond, firstOf, secondOf}
 use Rattle.order.specs.Reaches.{Reaches, atOnce, through}
 use Rattle.order.specs.Placing.{Placing, marked, visit, nothing}
 use Rattle.order.specs.Circle.{from, meetsItself, lowestCircle}
 use Rattle.order.proofs.laws.Marks.{nothing-marked, unseen-nothing}
 use Rattle.order.proofs.laws.Members.{member-dec}
-use Rattle.order.proofs.laws.Visit.{Visit, Closed, visit-is, unseen-fewer, marks-grow, visited-marked, newly-reached, open-before, visit-closed, from-first, from-second}
+use Rattle.order.proofs.laws.Visit.{
+  Visit,
+  Closed,
+  visit-is,
+  unseen-fewer,
+  operands-marked,
+  newly-reached,
+  open-before,
+  visit-closed,
+  from-first,
+  from-second,
+}
 
 pub uses-below : {uses : List ℕ} {n i j : ℕ} → Uses uses n i j → j < n
 uses-below (asFirst h e) = h
@@ -57,13 +68,9 @@ module _ (uses : List ℕ) (n i : ℕ) where
   along (atOnce {i = j} {j = k} u) h m = onward j k h m u
   along (through {i = j} {j = l} u r) h m = along r (uses-below u) (onward j l h m u)
 
-  start : (j : ℕ) → Uses uses n i j → marked (both .marks) j ≡ true
-  start j (asFirst h e) = subst (λ (x : ℕ). marked (both .marks) x ≡ true) e (marks-grow to-both (firstOf uses n i) (visited-marked to-first (subst (λ (x : ℕ). x < n) (sym e) h)))
-  start j (asSecond h e) = subst (λ (x : ℕ). marked (both .marks) x ≡ true) e (visited-marked to-both (subst (λ (x : ℕ). x < n) (sym e) h))
-
   reached-marked : {k : ℕ} → Reaches uses n i k → marked (both .marks) k ≡ true
-  reached-marked (atOnce {j = j} u) = start j u
-  reached-marked (through {j = j} u r) = along r (uses-below u) (start j u)
+  reached-marked (atOnce {j = j} u) = operands-marked i to-first to-both j u
+  reached-marked (through {j = j} u r) = along r (uses-below u) (operands-marked i to-first to-both j u)
 
   pub reaches-meets : Reaches uses n i i → meetsItself uses n i ≡ true
   unfolding meetsItself from
@@ -78,10 +85,6 @@ module _ (uses : List ℕ) (n : ℕ) where
   pub below-lowest : (i : ℕ) → i < lowestCircle uses n → Reaches uses n i i → ⊥
   unfolding lowestCircle
   below-lowest i h r = true≢false (sym (reaches-meets uses n i r) ∙ least-before (meetsItself uses n) n i h)
-
-  pub lowest-most : lowestCircle uses n ≤ n
-  unfolding lowestCircle
-  lowest-most = least-le (meetsItself uses n) n
 
   pub no-circle-lowest : ((i : ℕ) → i < n → Reaches uses n i i → ⊥) → lowestCircle uses n ≡ n
   unfolding lowestCircle

@@ -46,7 +46,8 @@ member-place (x ∷ xs) (suc k) j d e = by (eqb j x) refl e (member-place xs k j
     later : (m : ℕ) × (m < k) × (getD xs m d ≡ j) → (m : ℕ) × (m < suc k) × (getD (x ∷ xs) m d ≡ j)
     later t = (suc (t .0), omega (arith, t .1), t .2)
 
-    by : (b : Bool) → eqb j x ≡ b → (b || member j (take k xs)) ≡ true → (member j (take k xs) ≡ true → (m : ℕ) × (m < k) × (getD xs m d ≡ j)) → (m : ℕ) × (m < suc k) × (getD (x ∷ xs) m d ≡ j)
+    by : (b : Bool) → eqb j x ≡ b → (b || member j (take k xs)) ≡ true → (member j (take k xs) ≡ true → (m : ℕ) × (m < k) × (getD xs m d ≡ j))
+        → (m : ℕ) × (m < suc k) × (getD (x ∷ xs) m d ≡ j)
     by true f t ih = (zero, omega arith, sym (eqb-true j x f))
     by false f t ih = later (ih t)
 

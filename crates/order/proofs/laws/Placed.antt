@@ -2,11 +2,10 @@
 use Prim.Native.Nat.{ℕ, zero, suc, _+_, _<_, _≤_}
 use native.Mathlib.Omega.{arith}
 use native.Mathlib.Nat.{not-suc-le-zero}
-use native.Mathlib.Decide.{decLt, ℕ-discrete}
-use mathlib.Core.Bool.{Bool, true, false, cond, true≢false}
+use native.Mathlib.Decide.{decLt}
+use mathlib.Core.Bool.{true, false, true≢false}
 use mathlib.Core.List.{List, [], _∷_, _++_}
 use mathlib.Core.Path.{_≡_, refl, sym, ap, _∙_, subst}
-use lib.Dec.{eqb}
 use lib.ListN.{length, replicate, set}
 use Rattle.below.specs.Table.{table}
 use Rattle.below.specs.Among.{member}
@@ -15,8 +14,20 @@ use Rattle.below.proofs.laws.Filled.{replicate-table}
 use Rattle.order.specs.Uses.{Uses, asFirst, asSecond, firstOf, secondOf}
 use Rattle.order.specs.Placing.{Placing, marked, waits, mark, place, visit, nothing, visits, placed, orderOf}
 use Rattle.order.specs.contracts.Unseen.{unseen}
-use Rattle.order.proofs.laws.Marks.{mark-same, mark-other, nothing-marked, marked-stays, past-stays, unmarked-waits, unseen-none, unseen-nothing}
-use Rattle.order.proofs.laws.Visit.{Visit, stays, goes, visit-is, visit-stays, unseen-fewer, visit-counts, visit-long, marks-grow, visited-marked, open-before}
+use Rattle.order.proofs.laws.Marks.{mark-other, nothing-marked, marked-stays, past-stays, unmarked-waits, unseen-none, unseen-nothing}
+use Rattle.order.proofs.laws.Visit.{
+  Visit,
+  stays,
+  goes,
+  visit-is,
+  visit-stays,
+  unseen-fewer,
+  visit-counts,
+  visit-long,
+  marks-grow,
+  visited-marked,
+  open-before,
+}
 
 unseen-zeros : (n : ℕ) → unseen (replicate n 0) ≡ n
 unfolding unseen
@@ -43,17 +54,17 @@ module _ (uses : List ℕ) (n : ℕ) where
   unfolding visits
   visits-next k = visit-is uses n n k (visits uses n k) (visits-fewer k)
 
-  pub visits-long : (k : ℕ) → length (visits uses n k .marks) ≡ n
+  visits-long : (k : ℕ) → length (visits uses n k .marks) ≡ n
   unfolding visits
   visits-long zero = length-table {A = ℕ} (λ i. 0) n
   visits-long (suc k) = visit-long (visits-next k) ∙ visits-long k
 
-  pub visits-counts : (k : ℕ) → length (visits uses n k .order) + unseen (visits uses n k .marks) ≡ n
+  visits-counts : (k : ℕ) → length (visits uses n k .order) + unseen (visits uses n k .marks) ≡ n
   unfolding visits
   visits-counts zero = omega (arith, unseen-all n)
   visits-counts (suc k) = visit-counts (visits-next k) ∙ visits-counts k
 
-  pub visits-marked : (k j : ℕ) → j < k → j < n → marked (visits uses n k .marks) j ≡ true
+  visits-marked : (k j : ℕ) → j < k → j < n → marked (visits uses n k .marks) j ≡ true
   visits-marked zero j h l = absurd (not-suc-le-zero h)
   visits-marked (suc k) j h l = elim (decLt j k) [ yes a ↦ marks-grow (visits-next k) j (visits-marked k j a l) | no a ↦ last (omega arith) ]
     where
@@ -81,7 +92,8 @@ module _ (uses : List ℕ) (n : ℕ) where
       later : (j : ℕ) → k ≤ j → j < n → marked (visits uses n k .marks) j ≡ false
 
     -- a gate whose operands are marked is placed at once
-    at-once : (i : ℕ) (p q : Placing) → Visit uses n i p q → waits n (p .marks) i ≡ true → waits n (set (p .marks) i 1) (firstOf uses n i) ≡ false → waits n (set (p .marks) i 1) (secondOf uses n i) ≡ false → q ≡ place i (mark i p)
+    at-once : (i : ℕ) (p q : Placing) → Visit uses n i p q → waits n (p .marks) i ≡ true → waits n (set (p .marks) i 1) (firstOf uses n i) ≡ false
+        → waits n (set (p .marks) i 1) (secondOf uses n i) ≡ false → q ≡ place i (mark i p)
     at-once i p q (stays e) w a b = absurd (true≢false (sym w ∙ e))
     at-once i p s (goes {q = q} {r = r} e v u) w a b = ap (place i) (second ∙ first)
       where
@@ -120,7 +132,8 @@ module _ (uses : List ℕ) (n : ℕ) where
             let next = standing-next k h s in
             record {
               order = ap (λ (p : Placing). p .order) next ∙ ap (λ (l : List ℕ). l ++ (k ∷ [])) (s .order);
-              later = λ j a b. ap (λ (p : Placing). marked (p .marks) j) next ∙ mark-other (visits uses n k .marks) k j (omega arith) ∙ s .later j (omega arith) b;
+              later = λ j a b. ap (λ (p : Placing). marked (p .marks) j) next ∙ mark-other (visits uses n k .marks) k j (omega arith)
+                  ∙ s .later j (omega arith) b;
             }
 
     pub order-as-it-stands : orderOf uses n ≡ table (λ i. i) n

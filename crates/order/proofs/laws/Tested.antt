@@ -1,5 +1,5 @@
 -- The loop that tests an order: the gates in front are marked, each fitted, and marks say whether the next one does. Assumes nothing.
-use Prim.Native.Nat.{ℕ, zero, suc, _+_, _*_, _<_, _≤_}
+use Prim.Native.Nat.{ℕ, _+_, _*_, _<_, _≤_}
 use native.Mathlib.Omega.{arith}
 use native.Mathlib.Numerals.{add-one}
 use native.Mathlib.Decide.{decLt, ℕ-discrete}
@@ -20,7 +20,7 @@ use Rattle.order.specs.Uses.{firstOf, secondOf}
 use Rattle.order.specs.Placing.{marked}
 use Rattle.order.specs.Ordered.{stands, fits, isOrdered}
 use Rattle.order.specs.contracts.Lent.{fitsMarked}
-use Rattle.order.proofs.laws.Marks.{mark-same, mark-other, nothing-marked, not-zero-marked, both-true}
+use Rattle.order.proofs.laws.Marks.{mark-same, mark-other, nothing-marked, both-true}
 use Rattle.order.proofs.laws.Reached.{at-place}
 use Rattle.below.proofs.laws.Among.{member-snoc}
 
@@ -53,7 +53,8 @@ module _ (uses marks : List ℕ) (gate : ℕ) where
 
     pub second-looked : marked marks f ≡ true → (s : ℕ) → s ≡ getD uses (2 * gate + 1) 0 → marked marks s ≡ fitsMarked uses marks gate
     unfolding fitsMarked
-    second-looked e s isSecond = rw (own, first, e) (ap (marked marks) (isSecond ∙ at-place uses (2 * gate + 1) 0 (length marks) (omega (arith, unmarked-below marks gate own))))
+    second-looked e s isSecond = rw (own, first, e)
+        (ap (marked marks) (isSecond ∙ at-place uses (2 * gate + 1) 0 (length marks) (omega (arith, unmarked-below marks gate own))))
 
   pub fits-unmarked : fitsMarked uses marks gate ≡ true → gate < length marks
   unfolding fitsMarked
@@ -88,14 +89,19 @@ module _ (uses : List ℕ) (n : ℕ) (order : List ℕ) where
 
   pub tested-start : (marks : List ℕ) → marks ≡ table (λ i. 0) n → Tested 0 marks
   unfolding stands member among
-  tested-start marks e = record { within = omega arith; long = ap length e ∙ length-table {A = ℕ} (λ i. 0) n; front = front; passed = λ j h. absurd (not-suc-le-zero h) }
+  tested-start marks e =
+      record { within = omega arith; long = ap length e ∙ length-table {A = ℕ} (λ i. 0) n; front = front; passed = λ j h. absurd (not-suc-le-zero h) }
     where
       front : (j : ℕ) → marked marks j ≡ (leb n j || false)
-      front j = elim (decLt j n) [ yes h ↦ ap (λ (l : List ℕ). marked l j) e ∙ nothing-marked n j h ∙ sym (ap (λ (t : Bool). t || false) (lt-leb n j h)) | no h ↦ sym (marked-past marks j (omega (arith, ap length e, length-table {A = ℕ} (λ i. 0) n))) ∙ sym (ap (λ (t : Bool). t || false) (le-leb n j (omega arith))) ]
+      front j = elim (decLt j n) [
+        | yes h ↦ ap (λ (l : List ℕ). marked l j) e ∙ nothing-marked n j h ∙ sym (ap (λ (t : Bool). t || false) (lt-leb n j h))
+        | no h ↦ sym (marked-past marks j (omega (arith, ap length e, length-table {A = ℕ} (λ i. 0) n)))
+            ∙ sym (ap (λ (t : Bool). t || false) (le-leb n j (omega arith)))
+      ]
 
   module _ (k : ℕ) (marks : List ℕ) (t : Tested k marks) where
     -- marks say whether the next gate fits
-    pub marks-fit : fitsMarked uses marks (getD order k n) ≡ fits uses n (take k order) (getD order k n)
+    marks-fit : fitsMarked uses marks (getD order k n) ≡ fits uses n (take k order) (getD order k n)
     unfolding fitsMarked fits
     marks-fit = ap₂ _&&_ own (ap₂ _&&_ (operand firstOf) (operand secondOf))
       where
@@ -105,7 +111,7 @@ module _ (uses : List ℕ) (n : ℕ) (order : List ℕ) where
         operand : (of : List ℕ → ℕ → ℕ → ℕ) → marked marks (of uses (length marks) (getD order k n)) ≡ stands n (take k order) (of uses n (getD order k n))
         operand of = ap (λ (m : ℕ). marked marks (of uses m (getD order k n))) (t .long) ∙ t .front (of uses n (getD order k n))
 
-    pub tested-next : k < n → length order ≡ n → fits uses n (take k order) (getD order k n) ≡ true → Tested (k + 1) (set marks (getD order k n) 1)
+    tested-next : k < n → length order ≡ n → fits uses n (take k order) (getD order k n) ≡ true → Tested (k + 1) (set marks (getD order k n) 1)
     tested-next h wide e = record { within = omega arith; long = length-set marks (getD order k n) 1 ∙ t .long; front = front; passed = passed }
       where
         next : take (k + 1) order ≡ take k order ++ (getD order k n ∷ [])
@@ -115,7 +121,11 @@ module _ (uses : List ℕ) (n : ℕ) (order : List ℕ) where
         same = mark-same marks (getD order k n) ∙ sym (ap (λ (l : List ℕ). stands n l (getD order k n)) next ∙ put-stands n (take k order) (getD order k n))
 
         front : (j : ℕ) → marked (set marks (getD order k n) 1) j ≡ stands n (take (k + 1) order) j
-        front j = elim (ℕ-discrete j (getD order k n)) [ yes q ↦ rw (q, same) | no d ↦ mark-other marks (getD order k n) j d ∙ t .front j ∙ sym (ap (λ (l : List ℕ). stands n l j) next ∙ stands-put n (take k order) (getD order k n) j d) ]
+        front j = elim (ℕ-discrete j (getD order k n)) [
+          | yes q ↦ rw (q, same)
+          | no d ↦ mark-other marks (getD order k n) j d ∙ t .front j
+              ∙ sym (ap (λ (l : List ℕ). stands n l j) next ∙ stands-put n (take k order) (getD order k n) j d)
+        ]
 
         passed : (j : ℕ) → j < k + 1 → fits uses n (take j order) (getD order j n) ≡ true
         passed j l = elim (decLt j k) [ yes a ↦ t .passed j a | no a ↦ last j (omega arith) ]
@@ -123,7 +133,7 @@ module _ (uses : List ℕ) (n : ℕ) (order : List ℕ) where
             last : (j : ℕ) → j ≡ k → fits uses n (take j order) (getD order j n) ≡ true
             last j q = rw (q, e)
 
-    pub tested-fails : k < n → fits uses n (take k order) (getD order k n) ≡ false → false ≡ isOrdered uses n order
+    tested-fails : k < n → fits uses n (take k order) (getD order k n) ≡ false → false ≡ isOrdered uses n order
     unfolding isOrdered
     tested-fails h e = sym (ap (λ (b : Bool). eqb (length order) n && b) (by (every fitting n) refl) ∙ and-false (eqb (length order) n))
       where

@@ -1,6 +1,6 @@
 -- What a visit may count on of what it is lent, and what it leaves there: the marks and the gates placed so far are those of the definition, by
 -- any fuel that is enough, and the places behind are as before. Assumes nothing.
-use Prim.Native.Nat.{ℕ, _+_, _*_, _<_, _≤_}
+use Prim.Native.Nat.{ℕ, _+_, _*_, _≤_}
 use mathlib.Core.List.{List}
 use mathlib.Core.Path.{_≡_}
 use lib.ListN.{length, getD, take}

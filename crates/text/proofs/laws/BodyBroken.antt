@@ -15,7 +15,7 @@ use Rattle.text.specs.Header.{Header}
 use Rattle.text.specs.InList.{All}
 use Rattle.text.specs.Kind.{Kind, anInput, aLatch, theOutput, aGate, kinds, definedByAll, usedBy, usedByAll, gateOf}
 use Rattle.text.specs.NoSymbol.{NoSymbol}
-use Rattle.text.specs.Numbers.{gateCircle}
+use Rattle.text.specs.Numbers.{badSymbol, gateCircle}
 use Rattle.text.specs.Read.{linesRead}
 use Rattle.text.specs.Section.{Body, onward, used}
 use Rattle.text.specs.Stages.{inputSection, latchSection, outputSection, gateSection, lateOf, lateStage, circleStage, symbolStage, circled}
@@ -454,8 +454,8 @@ module _ (h : Header) (rest : List (List ℕ)) where
         symbols-refused (s .ins) (s .lats) (s .outs) (s .gs) (s .rightI) (s .rightL) (s .rightO) (s .rightG) (subst (WellUsed h) (s .whole) u) n
 
     -- the numbers of these faults are 4 to 8 and 16
-    pub body-range : BodyBroken h rest number place → ((4 ≤ number) × (number ≤ 8)) ⊎ (number ≡ gateCircle)
-    body-range (inLines f) = let (low, high) = first-range (h .largest) (kinds h) [] rest 2 number place f in inl (low, omega (arith, high))
-    body-range (inUse rows w u) = let seven : number ≡ 7 = u .seven in inl (omega arith, omega arith)
-    body-range (inCircle rows w k c) = inr (c .sixteen)
-    body-range (inSymbols rows w k n) = let eight : number ≡ 8 = n .eight in inl (omega arith, omega arith)
+    pub body-range : BodyBroken h rest number place → (4 ≤ number) × ((number ≤ badSymbol) ⊎ (number ≡ gateCircle))
+    body-range (inLines f) = let (low, high) = first-range (h .largest) (kinds h) [] rest 2 number place f in (low, inl (omega (arith, high)))
+    body-range (inUse rows w u) = let seven : number ≡ 7 = u .seven in (omega arith, inl (omega arith))
+    body-range (inCircle rows w k c) = (omega (arith, c .sixteen), inr (c .sixteen))
+    body-range (inSymbols rows w k n) = let eight : number ≡ 8 = n .eight in (omega arith, inl (omega arith))

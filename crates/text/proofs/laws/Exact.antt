@@ -170,14 +170,15 @@ module _ (limits : Limits) (bytes : List ℕ) where
       by (fine f g t) = absurd (taken-is-not-refused number place (circuitOf f) (sym (circuit-taken f g t) ∙ e))
 
   -- a fault behind the header has no number below 4, and not 9
-  not-body : (h : Header) (number place : ℕ) → (number < 4) ⊎ (number ≡ tooManyInputs) → BodyBroken h (drop 1 (lines bytes)) number place → ⊥
-  not-body h number place other k = by other (body-range h (drop 1 (lines bytes)) number place k)
+  not-before : (h : Header) (number place : ℕ) → number < 4 → BodyBroken h (drop 1 (lines bytes)) number place → ⊥
+  not-before h number place few k = omega (arith, few, body-range h (drop 1 (lines bytes)) number place k .0)
+
+  not-nine : (h : Header) (place : ℕ) → BodyBroken h (drop 1 (lines bytes)) tooManyInputs place → ⊥
+  not-nine h place k = by (body-range h (drop 1 (lines bytes)) tooManyInputs place k .1)
     where
-      by : (number < 4) ⊎ (number ≡ tooManyInputs) → ((4 ≤ number) × (number ≤ 8)) ⊎ (number ≡ gateCircle) → ⊥
-      by (inl a) (inl b) = omega (arith, a, b .0)
-      by (inl a) (inr b) = omega (arith, a, b)
-      by (inr a) (inl b) = omega (arith, a, b .1)
-      by (inr a) (inr b) = omega (arith, a, b)
+      by : (tooManyInputs ≤ badSymbol) ⊎ (tooManyInputs ≡ gateCircle) → ⊥
+      by (inl few) = omega (arith, few)
+      by (inr same) = omega (arith, same)
 
   -- a file is refused with a number and a place exactly if the table says so
   pub refused-exactly : (number place : ℕ) → (circuitRead limits bytes ≡ refused number place) ↔ Row limits bytes number place
@@ -191,7 +192,7 @@ module _ (limits : Limits) (bytes : List ℕ) where
       by (one n p a) = (a, p)
       by (two n p a b) = absurd (omega (arith, n))
       by (three n p a h t w) = absurd (omega (arith, n))
-      by (fourToEight h b k) = absurd (not-body h fileTooLong place (inl (omega arith)) k)
+      by (fourToEight h b k) = absurd (not-before h fileTooLong place (omega arith) k)
       by (nine n p f e t) = absurd (omega (arith, n))
 
   pub two-exactly : (place : ℕ) → (circuitRead limits bytes ≡ refused badHeader place) ↔ ((length bytes ≤ limits .file) × Headless bytes × (place ≡ 1))
@@ -201,7 +202,7 @@ module _ (limits : Limits) (bytes : List ℕ) where
       by (one n p a) = absurd (omega (arith, n))
       by (two n p a b) = (a, b, p)
       by (three n p a h t w) = absurd (omega (arith, n))
-      by (fourToEight h b k) = absurd (not-body h badHeader place (inl (omega arith)) k)
+      by (fourToEight h b k) = absurd (not-before h badHeader place (omega arith) k)
       by (nine n p f e t) = absurd (omega (arith, n))
 
   pub three-exactly : (place : ℕ) → (circuitRead limits bytes ≡ refused headerLimit place) ↔
@@ -212,7 +213,7 @@ module _ (limits : Limits) (bytes : List ℕ) where
       by (one n p a) = absurd (omega (arith, n))
       by (two n p a b) = absurd (omega (arith, n))
       by (three n p a h t w) = (h, a, t, w, p)
-      by (fourToEight h b k) = absurd (not-body h headerLimit place (inl (omega arith)) k)
+      by (fourToEight h b k) = absurd (not-before h headerLimit place (omega arith) k)
       by (nine n p f e t) = absurd (omega (arith, n))
 
   pub four-to-eight-exactly : (number place : ℕ) → 4 ≤ number → number ≤ 8
@@ -327,7 +328,7 @@ module _ (limits : Limits) (bytes : List ℕ) where
       by (one n p a) = absurd (omega (arith, n))
       by (two n p a b) = absurd (omega (arith, n))
       by (three n p a h t w) = absurd (omega (arith, n))
-      by (fourToEight h b k) = absurd (not-body h tooManyInputs place (inr refl) k)
+      by (fourToEight h b k) = absurd (not-nine h place k)
       by (nine n p f e t) = (f, e, t, p)
 
   -- a circuit is read exactly if a file is taken whose circuit hasn't too many inputs of a sort

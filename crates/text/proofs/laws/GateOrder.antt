@@ -14,7 +14,7 @@ use Rattle.text.specs.WellFormed.{Known, ReachesItself, ofInputsAndLatch
 use Rattle.text.proofs.laws.GateUses.{gateVariable}
 use Rattle.text.proofs.laws.InTurn.{turn-long, lines-back, turn-all, same-members, turn-defines, turn-above, turn-once}
 use Rattle.text.proofs.laws.Lists.{Differ}
-use Rattle.text.proofs.laws.Standing.{standing-no-circle, standing-as-before}
+use Rattle.text.proofs.laws.Standing.{standing-operands, standing-no-circle, standing-as-before}
 
 -- all that the file defines, gates in order of evaluation
 abbrev pub definedInTurn : TextFile → List ℕ
@@ -52,8 +52,11 @@ module _ (f : TextFile) (never : (i : ℕ) → ReachesItself (f .gates) i → �
   known-in-turn l (inl small) = inl small
   known-in-turn l (inr i) = inr (turn-defines (f .gates) never (ofInputsAndLatches f) (variable l) i)
 
--- gates whose operands stand above them already
+-- gates whose operands stand above them already: the file is still as it has to be, and its circuit has them in the order of their lines
 module _ (f : TextFile) (once : Pairs Differ (definedIn f)) (above : Operands (ofInputsAndLatches f) (f .gates)) where
+  pub in-order-operands : All (λ (g : Gate). Known (definedIn f) (g .left) × Known (definedIn f) (g .right)) (f .gates)
+  in-order-operands = standing-operands (ofInputsAndLatches f) (f .gates) once above
+
   pub in-order-no-circle : (i : ℕ) → ReachesItself (f .gates) i → ⊥
   in-order-no-circle = standing-no-circle (ofInputsAndLatches f) (f .gates) once above
 

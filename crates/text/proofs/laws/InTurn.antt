@@ -48,8 +48,8 @@ abbrev pub inTurn : List Gate → List Gate
 inTurn gates = map (gateAt gates) (evaluation gates)
 
 -- and for each line, where its gate stands in that order
-abbrev pub onLines : List Gate → List ℕ
-onLines gates = table (evaluated gates) (length gates)
+abbrev pub placesInTurn : List Gate → List ℕ
+placesInTurn gates = table (evaluated gates) (length gates)
 
 module _ (gates : List Gate) (never : (i : ℕ) → ReachesItself gates i → ⊥) where
   abbrev n : ℕ
@@ -69,7 +69,7 @@ module _ (gates : List Gate) (never : (i : ℕ) → ReachesItself gates i → �
       ap (λ (d : Gate). getD (inTurn gates) k d) (sym past) ∙ List·getD-map (gateAt gates) (evaluation gates) k n
 
   -- the lines come back
-  pub lines-back : map (gateAt (inTurn gates)) (onLines gates) ≡ gates
+  pub lines-back : map (gateAt (inTurn gates)) (placesInTurn gates) ≡ gates
   unfolding evaluated gateAt
   lines-back =
       map-table (gateAt (inTurn gates)) (evaluated gates) n

@@ -14,7 +14,7 @@ use Rattle.text.specs.TextFile.{TextFile, circuitOf}
 use Rattle.text.specs.WellFormed.{WellFormed}
 use Rattle.text.proofs.laws.Exact.{taken-circuit}
 use Rattle.text.proofs.laws.GateOrder.{gate-lines-back}
-use Rattle.text.proofs.laws.InTurn.{inTurn, onLines}
+use Rattle.text.proofs.laws.InTurn.{inTurn, placesInTurn}
 use Rattle.text.proofs.laws.Sound.{sound}
 
 files-equal : (f g : TextFile) → WellFormed base f → WellFormed base g → SameCircuit (circuitOf f) (circuitOf g) → circuitOf f ≡ circuitOf g
@@ -29,7 +29,7 @@ files-equal f g v w s =
       latches = s .lines .latches x;
       output = s .lines .output x;
       gates = inTurn (gates x);
-      lines = onLines (gates x);
+      lines = placesInTurn (gates x);
     }
 
 pub same-is-equal : (bytes others : List ℕ) (c d : Circuit) → circuitRead base bytes ≡ taken c → circuitRead base others ≡ taken d → SameCircuit c d → c ≡ d

@@ -1,5 +1,7 @@
 -- `capi::plain::counts` meets its contract: the counts of the circuit's own lists. Assumes nothing.
-use Rattle.circuit.specs.Stored.{meant}
+use Rattle.circuit.specs.Circuit.{latchCount, uncontrollableCount, controllableCount}
+use Rattle.circuit.specs.Stored.{meant, onLines}
+use Rattle.capi.specs.Plain.{readAnswer}
 use borrow.Author.Needs.{needs}
 use Rattle.capi.proofs.plain.counts.Statement.{statement}
 use Rattle.capi.proofs.plain.counts.Tie as tie
@@ -8,7 +10,7 @@ counts-lent-requires : tie.Need-counts-lent-requires
 counts-lent-requires c κs = search needs
 
 returns : tie.Need-returns
-unfolding meant
+unfolding meant onLines readAnswer latchCount uncontrollableCount controllableCount
 returns c = c .counts-lent .ensures
 
 pub counts-spec : {M : Type 1} → statement M

@@ -29,28 +29,42 @@ meets-itself-requires : tie.Need-meets-itself-requires Inv-loop μ-loop
 meets-itself-requires c κs = let l = c .before .before .before .loop in (omega (arith, c .before .before .loop-test .taken, l .inv .2), l .inv .1)
 
 same-length : tie.Need-same-length Inv-loop μ-loop
-same-length c = c .before .before .before .before .before .meets-itself .kept .1 .0 ∙ c .before .before .before .before .before .before .before .before .before .loop .inv .2
+same-length c =
+    let c8 = c .before .before .before .before .before .before .before .before in
+    c .before .before .before .before .before .meets-itself .kept .1 .0 ∙ c8 .before .loop .inv .2
 
 same-length-2 : tie.Need-same-length-2 Inv-loop μ-loop
-same-length-2 c = c .before .before .before .before .before .meets-itself .kept .1 .1 .0 ∙ c .before .before .before .before .before .before .before .before .before .loop .inv .3 ∙ sym (c .before .before .before .before .before .before .before .before .before .before .before .before .before .pre .long)
+same-length-2 c =
+    let c8 = c .before .before .before .before .before .before .before .before in
+    c .before .before .before .before .before .meets-itself .kept .1 .1 .0 ∙ c8 .before .loop .inv .3
+    ∙ sym (c8 .before .before .before .before .before .pre .long)
 
 returns : tie.Need-returns Inv-loop μ-loop
 unfolding lowestCircle
 returns c =
-    let l = c .before .before .before .before .before .before .before .before .before .loop in
-    passed-found _ _ (l .gate) (l .inv .0) (c .before .before .before .before .before .before .before .before .loop-test .taken) (met (c .before .before .before .before .before .before .before .before .before .before .before .before .before .args .uses .now) (l .gate) (l .inv .2) (c .before .before .before .before .before .meets-itself .ensures) ∙ c .if1 .taken)
+    let c8 = c .before .before .before .before .before .before .before .before in
+    let l = c8 .before .loop in
+    passed-found _ _ (l .gate) (l .inv .0) (c8 .loop-test .taken)
+    (met (c8 .before .before .before .before .before .args .uses .now) (l .gate) (l .inv .2)
+    (c .before .before .before .before .before .meets-itself .ensures) ∙ c .if1 .taken)
 
 add-gate : tie.Need-add-gate Inv-loop μ-loop
-add-gate c = omega (arith, c .before .before .before .before .before .before .before .before .loop-test .taken)
+add-gate c =
+    let c8 = c .before .before .before .before .before .before .before .before in
+    omega (arith, c8 .loop-test .taken)
 
 loop-less : tie.Need-loop-less Inv-loop μ-loop
-loop-less c = omega (arith, c .before .before .before .before .before .before .before .before .loop-test .taken)
+loop-less c =
+    let c8 = c .before .before .before .before .before .before .before .before in
+    omega (arith, c8 .loop-test .taken)
 
 loop-again : tie.Need-loop-again Inv-loop μ-loop
 loop-again c =
-    let l = c .before .before .before .before .before .before .before .before .before .loop in
+    let c8 = c .before .before .before .before .before .before .before .before in
+    let l = c8 .before .loop in
     let m = c .before .before .before .before .before .meets-itself in (
-      passed-next _ _ (l .gate) (l .inv .0) (c .before .before .before .before .before .before .before .before .loop-test .taken) (met (c .before .before .before .before .before .before .before .before .before .before .before .before .before .args .uses .now) (l .gate) (l .inv .2) (m .ensures) ∙ c .if1 .left),
+      passed-next _ _ (l .gate) (l .inv .0) (c8 .loop-test .taken)
+          (met (c8 .before .before .before .before .before .args .uses .now) (l .gate) (l .inv .2) (m .ensures) ∙ c .if1 .left),
       lent-on _ (l .marks) (l .order) (m .last .1 .0) (m .last .1 .1 .0) (l .inv .1) (m .kept .1 .0) (m .kept .1 .1 .0),
       m .kept .1 .0 ∙ l .inv .2,
       m .kept .1 .1 .0 ∙ l .inv .3,

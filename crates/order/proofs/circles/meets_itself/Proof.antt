@@ -16,7 +16,8 @@ operand-requires c κs = search needs
 
 visit-requires : tie.Need-visit-requires
 visit-requires c κs =
-    let s = c .before .before .before .before .before .before .before .before .before .before in
+    let c8 = c .before .before .before .before .before .before .before .before in
+    let s = c8 .before .before in
     let k = c .before .before .before .before .before .clear in
     first-room (s .args .uses .now) (s .args .marks .now) (s .args .order .now) (s .args .gate) (s .pre .0) (s .pre .1) (k .last .0) (k .ensures)
 

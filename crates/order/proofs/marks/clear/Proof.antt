@@ -1,5 +1,5 @@
 -- `order::marks::clear` meets its contract: what is passed is 0. Assumes nothing.
-use Prim.Native.Nat.{ℕ, _-_, _≤_}
+use Prim.Native.Nat.{_-_, _≤_}
 use native.Mathlib.Omega.{arith}
 use mathlib.Core.Path.{refl}
 use lib.ListN.{length}
@@ -27,7 +27,9 @@ loop-less : tie.Need-loop-less Inv-loop μ-loop
 loop-less c = let l = c .before .loop in omega (arith, l .inv .0 .long)
 
 loop-again : tie.Need-loop-again Inv-loop μ-loop
-loop-again c = let l = c .before .loop in (filled-next _ _ (l .i) 0 (l .marks) (l .inv .0) (omega (arith, l .inv .0 .long)) refl, omega (arith, l .inv .0 .long))
+loop-again c =
+    let l = c .before .loop in
+    (filled-next _ _ (l .i) 0 (l .marks) (l .inv .0) (omega (arith, l .inv .0 .long)) refl, omega (arith, l .inv .0 .long))
 
 same-length : tie.Need-same-length Inv-loop μ-loop
 same-length c = c .before .loop .inv .0 .long

@@ -1,5 +1,5 @@
 -- `order::placing::place` meets its contract: after each visit marks and places are those of the definition. Assumes nothing.
-use Prim.Native.Nat.{ℕ, _-_}
+use Prim.Native.Nat.{_-_}
 use native.Mathlib.Omega.{arith}
 use mathlib.Core.Path.{sym, ap, _∙_}
 use borrow.Author.Needs.{needs}
@@ -21,7 +21,8 @@ loop-holds : tie.Need-loop-holds Inv-loop μ-loop
 loop-holds c =
     let k = c .before .before .clear in
     let s = c .before .before .before .before .before .before .before in
-    going-start (s .args .uses .now) _ (k .last .0) (s .args .order .now) (cleared (s .args .marks .now) (k .last .0) (k .ensures)) (omega (arith, s .pre .pairs, k .kept .0))
+    going-start (s .args .uses .now) _ (k .last .0) (s .args .order .now) (cleared (s .args .marks .now) (k .last .0) (k .ensures))
+    (omega (arith, s .pre .pairs, k .kept .0))
     (omega (arith, s .pre .small, k .kept .0)) (s .pre .long ∙ sym (k .kept .0))
 
 visit-requires : tie.Need-visit-requires Inv-loop μ-loop
@@ -31,24 +32,32 @@ add-gate : tie.Need-add-gate Inv-loop μ-loop
 add-gate c = search needs
 
 loop-less : tie.Need-loop-less Inv-loop μ-loop
-loop-less c = let l = c .before .before .before .before .before .before .before .before .loop in omega (arith, c .before .before .before .before .before .before .before .loop-test .taken)
+loop-less c =
+    let c8 = c .before .before .before .before .before .before .before .before in
+    let l = c8 .loop in omega (arith, c .before .before .before .before .before .before .before .loop-test .taken)
 
 loop-again : tie.Need-loop-again Inv-loop μ-loop
 loop-again c =
+    let c8 = c .before .before .before .before .before .before .before .before in
     let v = c .before .before .before .before .visit in
-    let l = c .before .before .before .before .before .before .before .before .loop in
-    going-next _ _ (l .gate) (l .marks) (l .order) (l .count) (l .inv) (v .last .1 .0) (v .last .1 .1 .0) (v .result) (c .before .before .before .before .before .before .before .loop-test .taken) (v .kept .1 .0) (v .kept .1 .1 .0) (v .ensures)
+    let l = c8 .loop in
+    going-next _ _ (l .gate) (l .marks) (l .order) (l .count) (l .inv) (v .last .1 .0) (v .last .1 .1 .0) (v .result)
+    (c .before .before .before .before .before .before .before .loop-test .taken) (v .kept .1 .0) (v .kept .1 .1 .0) (v .ensures)
 
 same-length : tie.Need-same-length Inv-loop μ-loop
 same-length c = c .before .loop .inv .long ∙ c .before .before .before .before .clear .kept .0
 
 same-length-2 : tie.Need-same-length-2 Inv-loop μ-loop
-same-length-2 c = c .before .loop .inv .wide ∙ c .before .before .before .before .clear .kept .0 ∙ sym (c .before .before .before .before .before .before .before .before .before .pre .long)
+same-length-2 c =
+    let c8 = c .before .before .before .before .before .before .before .before in
+    c .before .loop .inv .wide ∙ c .before .before .before .before .clear .kept .0 ∙ sym (c8 .before .pre .long)
 
 returns : tie.Need-returns Inv-loop μ-loop
 returns c =
+    let c8 = c .before .before .before .before .before .before .before .before in
     let l = c .before .loop in
-    going-end _ _ (l .gate) (l .marks) (l .order) (l .count) (l .inv) (omega (arith, c .loop-test .left)) ∙ ap (orderOf (c .before .before .before .before .before .before .before .before .before .args .uses .now)) (c .before .before .before .before .clear .kept .0)
+    going-end _ _ (l .gate) (l .marks) (l .order) (l .count) (l .inv) (omega (arith, c .loop-test .left))
+    ∙ ap (orderOf (c8 .before .args .uses .now)) (c .before .before .before .before .clear .kept .0)
 
 pub place-spec : {M : Type 1} → statement M
 place-spec =

@@ -35,18 +35,25 @@ fits-requires : tie.Need-fits-requires Inv-loop μ-loop
 fits-requires c κs = let l = c .before .before .before .loop in omega (arith, l .inv .1, l .inv .0 .long)
 
 slice-write-marks : tie.Need-slice-write-marks Inv-loop μ-loop
-slice-write-marks c = let l = c .before .before .before .before .before in fits-unmarked (l .before .before .before .before .before .before .before .before .args .uses .now) (l .loop .marks) (c .before .before .before .operand .result) (sym (c .before .fits2 .ensures) ∙ c .if1 .taken)
+slice-write-marks c =
+    let l = c .before .before .before .before .before in
+    fits-unmarked (l .before .before .before .before .before .before .before .before .args .uses .now) (l .loop .marks)
+    (c .before .before .before .operand .result) (sym (c .before .fits2 .ensures) ∙ c .if1 .taken)
 
 same-length : tie.Need-same-length Inv-loop μ-loop
-same-length c = c .before .before .before .before .before .loop .inv .0 .long ∙ c .before .before .before .before .before .before .before .before .clear .kept .0
+same-length c =
+    let c8 = c .before .before .before .before .before .before .before .before in
+    c .before .before .before .before .before .loop .inv .0 .long ∙ c8 .clear .kept .0
 
 returns : tie.Need-returns Inv-loop μ-loop
 returns c =
+    let c8 = c .before .before .before .before .before .before .before .before in
     let l = c .before .before .before .before .before .loop in
-    let s = c .before .before .before .before .before .before .before .before .before .before .before .before .before in
-    looked-fails (s .args .uses .now) _ (s .args .order .now) (l .k) (l .marks) (l .inv .0) (c .before .before .before .before .loop-test .taken) (l .inv .2) (c .before .before .before .operand .result)
+    let s = c8 .before .before .before .before .before in
+    looked-fails (s .args .uses .now) _ (s .args .order .now) (l .k) (l .marks) (l .inv .0) (c .before .before .before .before .loop-test .taken)
+    (l .inv .2) (c .before .before .before .operand .result)
     (c .before .before .before .operand .ensures) (sym (c .before .fits2 .ensures) ∙ c .if1 .left)
-    ∙ ap (λ (n : ℕ). isOrdered (s .args .uses .now) n (s .args .order .now)) (c .before .before .before .before .before .before .before .before .clear .kept .0)
+    ∙ ap (λ (n : ℕ). isOrdered (s .args .uses .now) n (s .args .order .now)) (c8 .clear .kept .0)
 
 add-k : tie.Need-add-k Inv-loop μ-loop
 add-k c = let l = c .before .before .before .before .before .loop in omega (arith, c .before .before .before .before .loop-test .taken, l .inv .0 .within)
@@ -56,9 +63,11 @@ loop-less c = omega (arith, c .before .before .before .before .loop-test .taken)
 
 loop-again : tie.Need-loop-again Inv-loop μ-loop
 loop-again c =
+    let c8 = c .before .before .before .before .before .before .before .before in
     let l = c .before .before .before .before .before .loop in
-    let s = c .before .before .before .before .before .before .before .before .before .before .before .before .before in (
-      looked-next (s .args .uses .now) _ (s .args .order .now) (l .k) (l .marks) (l .inv .0) (c .before .before .before .before .loop-test .taken) (l .inv .2) (c .before .before .before .operand .result)
+    let s = c8 .before .before .before .before .before in (
+      looked-next (s .args .uses .now) _ (s .args .order .now) (l .k) (l .marks) (l .inv .0) (c .before .before .before .before .loop-test .taken)
+          (l .inv .2) (c .before .before .before .operand .result)
           (c .before .before .before .operand .ensures) (sym (c .before .fits2 .ensures) ∙ c .if1 .taken),
       l .inv .1,
       l .inv .2,
@@ -69,8 +78,9 @@ same-length-2 c = c .before .loop .inv .0 .long ∙ c .before .before .before .b
 
 returns-2 : tie.Need-returns-2 Inv-loop μ-loop
 returns-2 c =
+    let c8 = c .before .before .before .before .before .before .before .before in
     let l = c .before .loop in
-    let s = c .before .before .before .before .before .before .before .before .before in
+    let s = c8 .before in
     tested-end (s .args .uses .now) _ (s .args .order .now) (l .k) (l .marks) (l .inv .0) (omega (arith, c .loop-test .left)) (l .inv .2)
     ∙ ap (λ (n : ℕ). isOrdered (s .args .uses .now) n (s .args .order .now)) (c .before .before .before .before .clear .kept .0)
 

@@ -52,7 +52,8 @@ operands-operand-requires : (t : ℕ) → operands-lts.Need-operand-requires (
   visit-below t,
   visit.Post,
 ) (operands-at t) operands.Post
-operands-operand-requires t c κs = omega (arith, c .before .before .before .before .before .pre .1 .1 .pairs, c .before .before .before .before .before .pre .1 .0)
+operands-operand-requires t c κs =
+    omega (arith, c .before .before .before .before .before .pre .1 .1 .pairs, c .before .before .before .before .before .pre .1 .0)
 
 operands-visit-requires : (t : ℕ) → operands-lts.Need-visit-requires (
   operand-reads.Asked,
@@ -60,7 +61,9 @@ operands-visit-requires : (t : ℕ) → operands-lts.Need-visit-requires (
   visit-below t,
   visit.Post,
 ) (operands-at t) operands.Post
-operands-visit-requires t c κs = let s = c .before .before .before .before .before .before in (omega (arith, s .pre .0), room-on _ _ _ _ _ _ _ (s .pre .1 .1) refl refl (omega arith))
+operands-visit-requires t c κs =
+    let s = c .before .before .before .before .before .before in
+    (omega (arith, s .pre .0), room-on _ _ _ _ _ _ _ (s .pre .1 .1) refl refl (omega arith))
 
 operands-mul-operand-2 : (t : ℕ) → operands-lts.Need-mul-operand-2 (
   operand-reads.Asked,
@@ -68,7 +71,9 @@ operands-mul-operand-2 : (t : ℕ) → operands-lts.Need-mul-operand-2 (
   visit-below t,
   visit.Post,
 ) (operands-at t) operands.Post
-operands-mul-operand-2 t c = let s = c .before .before .before .before .before .before .before .before .before .before .before .before .before in omega (arith, s .pre .1 .1 .small, s .pre .1 .0)
+operands-mul-operand-2 t c =
+    let c8 = c .before .before .before .before .before .before .before .before in
+    let s = c8 .before .before .before .before .before in omega (arith, s .pre .1 .1 .small, s .pre .1 .0)
 
 operands-add-operand : (t : ℕ) → operands-lts.Need-add-operand (
   operand-reads.Asked,
@@ -76,7 +81,9 @@ operands-add-operand : (t : ℕ) → operands-lts.Need-add-operand (
   visit-below t,
   visit.Post,
 ) (operands-at t) operands.Post
-operands-add-operand t c = let s = c .before .before .before .before .before .before .before .before .before .before .before .before .before in omega (arith, s .pre .1 .1 .small, s .pre .1 .0)
+operands-add-operand t c =
+    let c8 = c .before .before .before .before .before .before .before .before in
+    let s = c8 .before .before .before .before .before in omega (arith, s .pre .1 .1 .small, s .pre .1 .0)
 
 operands-operand-requires-2 : (t : ℕ) → operands-lts.Need-operand-requires-2 (
   operand-reads.Asked,
@@ -84,7 +91,9 @@ operands-operand-requires-2 : (t : ℕ) → operands-lts.Need-operand-requires-2
   visit-below t,
   visit.Post,
 ) (operands-at t) operands.Post
-operands-operand-requires-2 t c κs = let s = c .before .before .before .before .before .before .before .before .before .before .before .before .before in omega (arith, s .pre .1 .1 .pairs, s .pre .1 .0)
+operands-operand-requires-2 t c κs =
+    let c8 = c .before .before .before .before .before .before .before .before in
+    let s = c8 .before .before .before .before .before in omega (arith, s .pre .1 .1 .pairs, s .pre .1 .0)
 
 operands-visit-requires-2 : (t : ℕ) → operands-lts.Need-visit-requires-2 (
   operand-reads.Asked,
@@ -92,7 +101,13 @@ operands-visit-requires-2 : (t : ℕ) → operands-lts.Need-visit-requires-2 (
   visit-below t,
   visit.Post,
 ) (operands-at t) operands.Post
-operands-visit-requires-2 t c κs = let v = c .before .before .before .before .before .before .before in let s = v .before .before .before .before .before .before .before in (omega (arith, s .pre .0, v .visit .ensures .fewer), room-on _ _ _ _ _ _ _ (s .pre .1 .1) (v .visit .kept .1 .0) (v .visit .kept .1 .1 .0) (omega (arith, v .visit .ensures .counts)))
+operands-visit-requires-2 t c κs =
+    let v = c .before .before .before .before .before .before .before in
+    let s = v .before .before .before .before .before .before .before in (
+      omega (arith, s .pre .0, v .visit .ensures .fewer),
+      room-on _ _ _ _ _ _ _ (s .pre .1 .1) (v .visit .kept .1 .0) (v .visit .kept .1 .1 .0)
+          (omega (arith, v .visit .ensures .counts)),
+    )
 
 operands-cast-order : (t : ℕ) → operands-lts.Need-cast-order (
   operand-reads.Asked,
@@ -100,7 +115,10 @@ operands-cast-order : (t : ℕ) → operands-lts.Need-cast-order (
   visit-below t,
   visit.Post,
 ) (operands-at t) operands.Post
-operands-cast-order t c = let s = c .before .before .before .before .before .before .before .before .before .before .before .before .before .before .before .before .before .before .before in omega (arith, s .pre .1 .1 .small, s .pre .1 .0)
+operands-cast-order t c =
+    let c8 = c .before .before .before .before .before .before .before .before in
+    let c16 = c8 .before .before .before .before .before .before .before .before in
+    let s = c16 .before .before .before in omega (arith, s .pre .1 .1 .small, s .pre .1 .0)
 
 operands-mul-order : (t : ℕ) → operands-lts.Need-mul-order (
   operand-reads.Asked,
@@ -108,7 +126,18 @@ operands-mul-order : (t : ℕ) → operands-lts.Need-mul-order (
   visit-below t,
   visit.Post,
 ) (operands-at t) operands.Post
-operands-mul-order t c = let w = c .before .before .before .before in let v = w .before .before .before .before .before .before .before .before in omega (arith, v .before .before .before .before .before .before .before .pre .1 .1 .narrow, v .before .before .before .before .before .before .before .pre .1 .1 .space, v .visit .kept .1 .1 .0, w .visit2 .kept .1 .1 .0, v .visit .ensures .counts, w .visit2 .ensures .counts)
+operands-mul-order t c =
+    let w = c .before .before .before .before in
+    let v = w .before .before .before .before .before .before .before .before in
+    omega (
+      arith,
+      v .before .before .before .before .before .before .before .pre .1 .1 .narrow,
+      v .before .before .before .before .before .before .before .pre .1 .1 .space,
+      v .visit .kept .1 .1 .0,
+      w .visit2 .kept .1 .1 .0,
+      v .visit .ensures .counts,
+      w .visit2 .ensures .counts,
+    )
 
 operands-slice-write-order : (t : ℕ) → operands-lts.Need-slice-write-order (
   operand-reads.Asked,
@@ -116,7 +145,17 @@ operands-slice-write-order : (t : ℕ) → operands-lts.Need-slice-write-order (
   visit-below t,
   visit.Post,
 ) (operands-at t) operands.Post
-operands-slice-write-order t c = let w = c .before .before .before .before in let v = w .before .before .before .before .before .before .before .before in omega (arith, v .before .before .before .before .before .before .before .pre .1 .1 .space, v .visit .kept .1 .1 .0, w .visit2 .kept .1 .1 .0, v .visit .ensures .counts, w .visit2 .ensures .counts)
+operands-slice-write-order t c =
+    let w = c .before .before .before .before in
+    let v = w .before .before .before .before .before .before .before .before in
+    omega (
+      arith,
+      v .before .before .before .before .before .before .before .pre .1 .1 .space,
+      v .visit .kept .1 .1 .0,
+      w .visit2 .kept .1 .1 .0,
+      v .visit .ensures .counts,
+      w .visit2 .ensures .counts,
+    )
 
 operands-add-result : (t : ℕ) → operands-lts.Need-add-result (
   operand-reads.Asked,
@@ -124,7 +163,18 @@ operands-add-result : (t : ℕ) → operands-lts.Need-add-result (
   visit-below t,
   visit.Post,
 ) (operands-at t) operands.Post
-operands-add-result t c = let w = c .before .before .before .before in let v = w .before .before .before .before .before .before .before .before in omega (arith, v .before .before .before .before .before .before .before .pre .1 .1 .narrow, v .before .before .before .before .before .before .before .pre .1 .1 .space, v .visit .kept .1 .1 .0, w .visit2 .kept .1 .1 .0, v .visit .ensures .counts, w .visit2 .ensures .counts)
+operands-add-result t c =
+    let w = c .before .before .before .before in
+    let v = w .before .before .before .before .before .before .before .before in
+    omega (
+      arith,
+      v .before .before .before .before .before .before .before .pre .1 .1 .narrow,
+      v .before .before .before .before .before .before .before .pre .1 .1 .space,
+      v .visit .kept .1 .1 .0,
+      w .visit2 .kept .1 .1 .0,
+      v .visit .ensures .counts,
+      w .visit2 .ensures .counts,
+    )
 
 operands-same-length : (t : ℕ) → operands-lts.Need-same-length (
   operand-reads.Asked,
@@ -132,7 +182,9 @@ operands-same-length : (t : ℕ) → operands-lts.Need-same-length (
   visit-below t,
   visit.Post,
 ) (operands-at t) operands.Post
-operands-same-length t c = let w = c .before .before .before .before in w .visit2 .kept .1 .0 ∙ w .before .before .before .before .before .before .before .before .visit .kept .1 .0
+operands-same-length t c =
+    let w = c .before .before .before .before in
+    w .visit2 .kept .1 .0 ∙ w .before .before .before .before .before .before .before .before .visit .kept .1 .0
 
 operands-same-length-2 : (t : ℕ) → operands-lts.Need-same-length-2 (
   operand-reads.Asked,
@@ -143,7 +195,8 @@ operands-same-length-2 : (t : ℕ) → operands-lts.Need-same-length-2 (
 operands-same-length-2 t c =
     let w = c .before .before .before .before in
     let v = w .before .before .before .before .before .before .before .before in
-    length-set (w .visit2 .last .1 .1 .0) (w .visit2 .result) (v .before .before .before .before .before .before .before .args .gate) ∙ w .visit2 .kept .1 .1 .0 ∙ v .visit .kept .1 .1 .0
+    length-set (w .visit2 .last .1 .1 .0) (w .visit2 .result) (v .before .before .before .before .before .before .before .args .gate)
+    ∙ w .visit2 .kept .1 .1 .0 ∙ v .visit .kept .1 .1 .0
 
 operands-returns : (t : ℕ) → operands-lts.Need-returns (
   operand-reads.Asked,
@@ -157,8 +210,10 @@ operands-returns t c =
     let s = v .before .before .before .before .before .before .before in
     both-visited (s .args .uses .now) (s .args .marks .now) (s .args .order .now) (s .args .gate) (s .args .count)
     (v .before .operand .result) (w .before .operand2 .result)
-    (v .before .operand .ensures ∙ at-place (s .args .uses .now) (2 * s .args .gate) 0 (length (s .args .marks .now)) (omega (arith, s .pre .1 .1 .pairs, s .pre .1 .0)))
-    (w .before .operand2 .ensures ∙ at-place (s .args .uses .now) (2 * s .args .gate + 1) 0 (length (s .args .marks .now)) (omega (arith, s .pre .1 .1 .pairs, s .pre .1 .0)))
+    (v .before .operand .ensures ∙ at-place (s .args .uses .now) (2 * s .args .gate) 0 (length (s .args .marks .now))
+    (omega (arith, s .pre .1 .1 .pairs, s .pre .1 .0)))
+    (w .before .operand2 .ensures ∙ at-place (s .args .uses .now) (2 * s .args .gate + 1) 0 (length (s .args .marks .now))
+    (omega (arith, s .pre .1 .1 .pairs, s .pre .1 .0)))
     (v .visit .last .1 .0) (v .visit .last .1 .1 .0) (v .visit .result) (v .visit .kept .1 .0) (v .visit .ensures)
     (w .visit2 .last .1 .0) (w .visit2 .last .1 .1 .0) (w .visit2 .result) (w .visit2 .ensures)
     (omega (arith, s .pre .1 .1 .space, v .visit .kept .1 .1 .0, w .visit2 .kept .1 .1 .0, v .visit .ensures .counts, w .visit2 .ensures .counts))
@@ -179,11 +234,15 @@ visit-operands-requires : (t : ℕ) → visit-lts.Need-operands-requires (
   operands.Post,
 ) (visit-at t) visit.Post
 visit-operands-requires t c κs =
-    let s = c .before .before .before .before .before .before .before .before in
+    let c8 = c .before .before .before .before .before .before .before .before in
+    let s = c8 in
     let h = c .before .before .before .before .if1 .taken in
     let e = c .before .before .if2 .taken in (
       omega (arith, s .pre .0, one-less (s .args .uses .now) (s .args .marks .now) (s .args .order .now) (s .args .gate) (s .args .count) h e),
-      (omega (arith, h, length-set (s .args .marks .now) (s .args .gate) 1), entered-room (s .args .uses .now) (s .args .marks .now) (s .args .order .now) (s .args .gate) (s .args .count) h e (s .pre .1)),
+      (
+        omega (arith, h, length-set (s .args .marks .now) (s .args .gate) 1),
+        entered-room (s .args .uses .now) (s .args .marks .now) (s .args .order .now) (s .args .gate) (s .args .count) h e (s .pre .1),
+      ),
     )
 
 visit-same-length :
@@ -203,13 +262,16 @@ visit-returns :
 visit-returns t c =
     let o = c .before .before .before .before in
     let s = o .before .before .before .before .before .before .before .before .before in
-    entered (s .args .uses .now) (s .args .marks .now) (s .args .order .now) (s .args .gate) (s .args .count) (o .before .before .before .before .before .if1 .taken) (o .before .before .before .if2 .taken) (o .operands .last .1 .0) (o .operands .last .1 .1 .0) (o .operands .result) (o .operands .ensures)
+    entered (s .args .uses .now) (s .args .marks .now) (s .args .order .now) (s .args .gate) (s .args .count)
+    (o .before .before .before .before .before .if1 .taken) (o .before .before .before .if2 .taken) (o .operands .last .1 .0)
+    (o .operands .last .1 .1 .0) (o .operands .result) (o .operands .ensures)
 
 visit-returns-2 :
     (t : ℕ) → visit-lts.Need-returns-2 (operands-below t, operands.Post) (visit-at t) visit.Post
 visit-returns-2 t c =
     let s = c .before .before .before .before .before .before in
-    stayed-marked (s .args .uses .now) (s .args .marks .now) (s .args .order .now) (s .args .gate) (s .args .count) (c .before .before .if1 .taken) (c .if2 .left)
+    stayed-marked (s .args .uses .now) (s .args .marks .now) (s .args .order .now) (s .args .gate) (s .args .count) (c .before .before .if1 .taken)
+    (c .if2 .left)
 
 visit-returns-3 :
     (t : ℕ) → visit-lts.Need-returns-3 (operands-below t, operands.Post) (visit-at t) visit.Post
