@@ -65,10 +65,8 @@ pub(crate) fn put_gates(
 ) -> usize
     requires { ⌜ at < 2 ^ 30 ⌝ }
     requires { ⌜ n ≤ base .variable ⌝ }
-    ensures {
-      λ r. ⌜ Wrote (inTurn (gateOnLine (now (gate .entry)) (now (left .entry)) (now (right .entry)) (now (lines .entry)) n) n) at
-        (now (out .entry)) (now (out .exit)) r ⌝
-    }
+    ensures { λ r. ⌜ Wrote (inTurn (gateOnLine (now (gate .entry)) (now (left .entry)) (now (right .entry)) (now (lines .entry)) n) n) at
+        (now (out .entry)) (now (out .exit)) r ⌝ }
     ensures { λ r. ⌜ r ≤ at + longestLine * n ⌝ }
 {
     let mut behind = at;

@@ -30,18 +30,21 @@ use Rattle.printer.proofs.laws.Tables.{flat-map-map, symbols-table, sym
 kept : (n : ℕ) (l : List ℕ) (i : ℕ) → i < length (take n l) → getD (take n l) i 0 ≡ getD l i 0
 kept n l i h = getD-take n l i 0 (omega (arith, length-take n l))
 
-inputs-print : (n : ℕ) (input controllable : List ℕ) → flatMap (λ own. numberLine (own ∷ [])) (map (λ (i : Input). i .own) (inputsOf (take n input) controllable)) ≡ inTurn (inputLine input) (length (take n input))
+inputs-print : (n : ℕ) (input controllable : List ℕ) → flatMap (λ own. numberLine (own ∷ []))
+    (map (λ (i : Input). i .own) (inputsOf (take n input) controllable)) ≡ inTurn (inputLine input) (length (take n input))
 unfolding inputsOf inputLine
 inputs-print n input controllable =
     flat-map-map (λ own. numberLine (own ∷ [])) (λ (i : Input). i .own) _
     ∙ flat-map-table (λ (i : Input). numberLine (i .own ∷ [])) _ (length (take n input))
     ∙ in-turn-same _ _ (length (take n input)) (λ i h. ap (λ (l : ℕ). numberLine (literalOf l ∷ [])) (kept n input i h))
 
-latches-print : (n : ℕ) (latch next : List ℕ) → flatMap (λ (l : Latch). numberLine (l .own ∷ l .next ∷ [])) (latchesOf (take n latch) next) ≡ inTurn (latchLine latch next) (min (length (take n latch)) (base .latches))
+latches-print : (n : ℕ) (latch next : List ℕ) → flatMap (λ (l : Latch). numberLine (l .own ∷ l .next ∷ [])) (latchesOf (take n latch) next) ≡ inTurn
+    (latchLine latch next) (min (length (take n latch)) (base .latches))
 unfolding latchesOf latchLine
 latches-print n latch next =
     flat-map-table (λ (l : Latch). numberLine (l .own ∷ l .next ∷ [])) _ (min (length (take n latch)) (base .latches))
-    ∙ in-turn-same _ _ (min (length (take n latch)) (base .latches)) (λ i h. ap (λ (l : ℕ). numberLine (literalOf l ∷ literalOf (getD next i 0) ∷ [])) (kept n latch i (omega arith)))
+    ∙ in-turn-same _ _ (min (length (take n latch)) (base .latches)) (λ i h. ap (λ (l : ℕ). numberLine (literalOf l ∷ literalOf (getD next i 0) ∷ []))
+    (kept n latch i (omega arith)))
 
 -- how long the arrays of a circuit's gates are
 pub record Long (v : Value) : Type 0 where
@@ -117,7 +120,8 @@ module _ (v : Value) (long : Long v) where
   gates-length : length (map (gateAt gateList) (take (v .gates) (v .lines))) ≡ count
   gates-length = length-map (take (v .gates) (v .lines)) (gateAt gateList) ∙ same-count
 
-names-print : (n : ℕ) (input controllable : List ℕ) → flatMap symbolLine (printedSymbols 0 (inputsOf (take n input) controllable)) ≡ inTurn (nameLine controllable) (length (take n input))
+names-print : (n : ℕ) (input controllable : List ℕ) → flatMap symbolLine (printedSymbols 0 (inputsOf (take n input) controllable)) ≡ inTurn
+    (nameLine controllable) (length (take n input))
 unfolding inputsOf nameLine symbolText
 names-print n input controllable =
     symbols-table _ (length (take n input))
@@ -146,7 +150,9 @@ partsOf v inputs latches gates =
     ++ inTurn (gateOnLine (v .gate) (v .left) (v .right) (v .lines) gates) gates
     ++ inTurn (nameLine (v .controllable)) inputs
 
-pub printed-parts : (v : Value) → Long v → (inputs latches gates : ℕ) → inputs ≡ length (take (v .inputs) (v .input)) → latches ≡ min (length (take (v .latches) (v .latch))) (base .latches) → gates ≡ length (take (v .gates) (v .gate)) → printed (meant v) ≡ partsOf v inputs latches gates
+pub printed-parts : (v : Value) → Long v → (inputs latches gates : ℕ) → inputs ≡ length (take (v .inputs) (v .input))
+    → latches ≡ min (length (take (v .latches) (v .latch))) (base .latches) → gates ≡ length (take (v .gates) (v .gate))
+    → printed (meant v) ≡ partsOf v inputs latches gates
 unfolding printed printedFile textOf meant onLines lent gateLines commentText
 printed-parts v long inputs latches gates a b c =
     let whole : printed (meant v) ≡ partsOf v inputs latches gates ++ [] =
@@ -154,5 +160,9 @@ printed-parts v long inputs latches gates a b c =
     whole ∙ append-nil (partsOf v inputs latches gates)
 
 -- the parts written one behind the other are the print
-pub wrote-printed : (v : Value) (inputs latches gates : ℕ) {p q r s t n : ℕ} {before l₁ l₂ l₃ l₄ l₅ after : List ℕ} → printed (meant v) ≡ partsOf v inputs latches gates → Wrote (word ++ numberLine (v .largest ∷ inputs ∷ latches ∷ 1 ∷ gates ∷ [])) 0 before l₁ p → Wrote (inTurn (inputLine (v .input)) inputs) p l₁ l₂ q → Wrote (inTurn (latchLine (v .latch) (v .next)) latches) q l₂ l₃ r → Wrote (numberLine (literalOf (v .output) ∷ [])) r l₃ l₄ s → Wrote (inTurn (gateOnLine (v .gate) (v .left) (v .right) (v .lines) gates) gates) s l₄ l₅ t → Wrote (inTurn (nameLine (v .controllable)) inputs) t l₅ after n → Wrote (printed (meant v)) 0 before after n
+pub wrote-printed : (v : Value) (inputs latches gates : ℕ) {p q r s t n : ℕ} {before l₁ l₂ l₃ l₄ l₅ after : List ℕ}
+    → printed (meant v) ≡ partsOf v inputs latches gates → Wrote (word ++ numberLine (v .largest ∷ inputs ∷ latches ∷ 1 ∷ gates ∷ [])) 0 before l₁ p
+    → Wrote (inTurn (inputLine (v .input)) inputs) p l₁ l₂ q → Wrote (inTurn (latchLine (v .latch) (v .next)) latches) q l₂ l₃ r
+    → Wrote (numberLine (literalOf (v .output) ∷ [])) r l₃ l₄ s → Wrote (inTurn (gateOnLine (v .gate) (v .left) (v .right) (v .lines) gates) gates) s
+    l₄ l₅ t → Wrote (inTurn (nameLine (v .controllable)) inputs) t l₅ after n → Wrote (printed (meant v)) 0 before after n
 wrote-printed v inputs latches gates e h i l o g c = rw e (wrote-both (wrote-both (wrote-both (wrote-both (wrote-both h i) l) o) g) c)

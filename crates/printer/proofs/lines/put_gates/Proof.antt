@@ -28,7 +28,8 @@ loop-again c =
     let l = c .before .before .before .before .before .before in
     let a = l .before .before .before .before .before .before .args in
     let put = c .before .before .put-gate in
-    section-more (gateOnLine (a .gate .now) (a .left .now) (a .right .now) (a .lines .now) (a .n)) (l .loop .inv) (c .before .before .before .before .before .loop-test .taken)
+    section-more (gateOnLine (a .gate .now) (a .left .now) (a .right .now) (a .lines .now) (a .n)) (l .loop .inv)
+    (c .before .before .before .before .before .loop-test .taken)
     (subst (λ (k : ℕ). Wrote (gateLine (a .gate .now) (a .left .now) (a .right .now) k) (l .loop .behind) (l .loop .out) (put .last .0) (put .result))
     (c .before .before .before .gate-number .ensures) (put .ensures .0)) (put .ensures .1)
 
