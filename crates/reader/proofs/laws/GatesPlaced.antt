@@ -9,15 +9,15 @@ use lib.ListN.{length, take, drop}
 use lib.Seq.{take-at}
 use borrow.Author.Tests.{lt-ltb, le-ltb}
 use Rattle.below.specs.Table.{table}
+use Rattle.below.proofs.laws.Least.{least-le}
 use Rattle.below.proofs.laws.Table.{length-table}
 use Rattle.circuit.specs.Literal.{variable, constant}
 use Rattle.fields.specs.contracts.Marks.{unmarked}
 use Rattle.order.specs.Answer.{answerOf, gatesIn}
-use Rattle.order.specs.Circle.{lowestCircle}
+use Rattle.order.specs.Circle.{meetsItself, lowestCircle}
 use Rattle.order.specs.Placing.{orderOf}
 use Rattle.order.specs.declared.Placed.{Placed}
 use Rattle.order.specs.declared.Placed.the-variants.{InOrder, Circle}
-use Rattle.order.proofs.laws.Meets.{lowest-most}
 use Rattle.order.proofs.laws.Placed.{placed-length}
 use Rattle.reader.specs.contracts.Definers.{Definers, DefinerRoom, UseRoom, operandAt}
 use Rattle.reader.specs.contracts.PlacedAs.{GateRoom, PlacedAs}
@@ -25,6 +25,10 @@ use Rattle.reader.specs.contracts.Rows.{cell, gateOn, rowGates}
 use Rattle.reader.proofs.laws.DefinersLoop.{marked-below, uses-are}
 use Rattle.text.specs.GateUses.{usesOf, evaluation}
 use Rattle.text.specs.Header.{Header}
+
+lowest-within : (uses : List ℕ) (n : ℕ) → lowestCircle uses n ≤ n
+unfolding lowestCircle
+lowest-within uses n = least-le (meetsItself uses n) n
 
 module _ (h : Header) (rows marks uses₀ order₀ : List ℕ) (room : GateRoom h rows marks uses₀ order₀) where
   abbrev start : ℕ
@@ -78,7 +82,7 @@ module _ (h : Header) (rows marks uses₀ order₀ : List ℕ) (room : GateRoom 
         order l =
             let none : r ≡ InOrder = says ∙ rw (le-ltb (lowestCircle graph (h .gates)) (h .gates) l) in
             subst (PlacedAs h rows after) (sym none) (record {
-              none = omega (arith, lowest-most graph (h .gates));
+              none = omega (arith, lowest-within graph (h .gates));
               placed = ap (take (h .gates)) holds ∙ take-at (orderOf graph (h .gates)) (drop (h .gates) definers) (h .gates) (placed-length graph (h .gates))
                   ∙ ap (orderOf graph) (sym count);
             })

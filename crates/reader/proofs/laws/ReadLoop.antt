@@ -216,7 +216,12 @@ module _ (h : Header) (rows order flags : List ℕ) (behind : Symbols) (few : Fe
   gate-of f which e =
       map-same (λ i. cell rows (h .inputs + h .latches + 1 + i) which) (λ i. f (gateAt (rowGates h rows) i)) order
       (λ k l.
-      let low : getD order k 0 < h .gates = omega (arith, ordered .long, ordered .within k (omega (arith, ordered .long)), getD-within order k 0 (h .gates) l) in
+      let low : getD order k 0 < h .gates = omega (
+        arith,
+        ordered .long,
+        ordered .within k (omega (arith, ordered .long)),
+        getD-within order k 0 (h .gates) l,
+      ) in
       sym (ap f (getD-table (λ i. gateOn rows (h .inputs + h .latches + 1 + i)) (h .gates) (getD order k 0) (record { own = 0; left = 0; right = 0 }) low)
       ∙ e (h .inputs + h .latches + 1 + getD order k 0)))
       ∙ sym (map-map f (gateAt (rowGates h rows)) order)
@@ -256,7 +261,8 @@ module _ (h : Header) (rows order flags : List ℕ) (behind : Symbols) (few : Fe
       }
 
   -- inputs of each sort, counted in the value and in the circuit
-  too-many-same : tooMany base (withInputs (inputsOf (take (h .inputs) (valueOf h rows order flags .input)) (take (h .inputs) flags))) ≡ tooMany base (circuitOf file)
+  too-many-same : tooMany base (withInputs (inputsOf (take (h .inputs) (valueOf h rows order flags .input)) (take (h .inputs) flags))) ≡ tooMany base
+      (circuitOf file)
   unfolding tooMany withInputs uncontrollableCount controllableCount inputsOf circuitOf rowsFile valueOf padded
   too-many-same = ap₂ (λ (u c : ℕ). ltb (base .uncontrollable) u || ltb (base .controllable) c)
       (count (λ i. not (i .controllable)) (λ i l. ap not (flag i l))) (count (λ i. i .controllable) flag)

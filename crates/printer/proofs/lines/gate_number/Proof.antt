@@ -14,7 +14,8 @@ unfolding gateNumber
 returns c =
     let a = c .before .before .before .before .before .args in
     let w = c .before .wide in
-    let e : getD (a .lines .now) (a .i) (a .n) ≡ w .result = getD-within (a .lines .now) (a .i) (a .n) 0 (c .before .before .before .if1 .taken) ∙ sym (w .ensures) in
+    let e : getD (a .lines .now) (a .i) (a .n) ≡ w .result = getD-within (a .lines .now) (a .i) (a .n) 0 (c .before .before .before .if1 .taken)
+    ∙ sym (w .ensures) in
     rw (e, lt-ltb (w .result) (a .n) (c .if2 .taken))
 
 returns-2 : tie.Need-returns-2
@@ -22,7 +23,8 @@ unfolding gateNumber
 returns-2 c =
     let a = c .before .before .before .before .before .args in
     let w = c .before .wide in
-    let e : getD (a .lines .now) (a .i) (a .n) ≡ w .result = getD-within (a .lines .now) (a .i) (a .n) 0 (c .before .before .before .if1 .taken) ∙ sym (w .ensures) in
+    let e : getD (a .lines .now) (a .i) (a .n) ≡ w .result = getD-within (a .lines .now) (a .i) (a .n) 0 (c .before .before .before .if1 .taken)
+    ∙ sym (w .ensures) in
     rw (e, le-ltb (w .result) (a .n) (c .if2 .left))
 
 returns-3 : tie.Need-returns-3

@@ -10,13 +10,17 @@ use Rattle.reader.proofs.behind.known_lines.Statement.{statement}
 use Rattle.reader.proofs.behind.known_lines.Tie as tie
 
 first-late-requires : tie.Need-first-late-requires
-first-late-requires c κs = omega (arith, c .before .before .before .before .before .before .before .before .before .body-lines .kept .1 .1 .1 .1 .0, c .before .before .before .before .before .before .before .before .before .before .before .before .before .before .before .pre .rows-all)
+first-late-requires c κs =
+    let c8 = c .before .before .before .before .before .before .before .before in
+    omega (arith, c8 .before .body-lines .kept .1 .1 .1 .1 .0, c8 .before .before .before .before .before .before .before .pre .rows-all)
 
 returns : tie.Need-returns
 returns c =
-    let a = c .before .before .before .before .before .before .before .before .before .before .before .before .before .before .before .before .before .before .before .before .args in
-    let y = c .before .before .before .before .before .before .before .before .before .before .before .before .before .before .body-lines in
-    let g = c .before .before .before .before .before .before .before .before .behind .given in
+    let c8 = c .before .before .before .before .before .before .before .before in
+    let c16 = c8 .before .before .before .before .before .before .before .before in
+    let a = c16 .before .before .before .before .args in
+    let y = c8 .before .before .before .before .before .before .body-lines in
+    let g = c8 .behind .given in
     let w = subst (BodyAs (said (a .h)) (a .s .now) second (y .last .1 .1 .1 .0) (y .last .1 .1 .1 .1 .0)) (g .1) (y .ensures) in
     known-late (said (a .h)) (a .s .now) (y .last .1 .1 .1 .0) (y .last .1 .1 .1 .1 .0) (g .0 .0) w (c .before .before .before .before .first-late .result)
     (c .before .before .before .before .first-late .ensures) (c .before .if1 .taken)
@@ -31,8 +35,10 @@ returns-2 c =
 
 returns-3 : tie.Need-returns-3
 returns-3 c =
-    let a = c .before .before .before .before .before .before .before .before .before .before .before .before .before .before .before .before .before .before .before .args in
-    let y = c .before .before .before .before .before .before .before .before .before .before .before .before .before .body-lines in
+    let c8 = c .before .before .before .before .before .before .before .before in
+    let c16 = c8 .before .before .before .before .before .before .before .before in
+    let a = c16 .before .before .before .args in
+    let y = c8 .before .before .before .before .before .body-lines in
     let g = c .before .before .before .before .before .before .before .behind .given in
     let w = subst (BodyAs (said (a .h)) (a .s .now) second (y .last .1 .1 .1 .0) (y .last .1 .1 .1 .1 .0)) (g .1) (y .ensures) in
     known-at (said (a .h)) (a .s .now) (y .last .1 .1 .1 .0) (y .last .1 .1 .1 .1 .0) (g .0 .0) w (c .before .before .before .first-late .result)

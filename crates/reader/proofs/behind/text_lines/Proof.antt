@@ -10,11 +10,15 @@ use Rattle.reader.proofs.behind.text_lines.Tie as tie
 
 symbol-lines-requires : tie.Need-symbol-lines-requires
 symbol-lines-requires c κs =
-    let s = c .before .before .before .before .before .before .before .before .before .before .before .before .before .before .before .before .before .before .before .before .before .before .before .before .before in
+    let c8 = c .before .before .before .before .before .before .before .before in
+    let c16 = c8 .before .before .before .before .before .before .before .before in
+    let c24 = c16 .before .before .before .before .before .before .before .before in
+    let s = c24 .before in
     let a = s .args in
     let p = s .pre in
-    let y = c .before .before .before .before .before .before .before .before .before .before .before .before .before .ordered-lines in
-    let w = subst (OrderedAs (said (a .h)) (a .s .now) (y .last .1 .1 .1 .0) (y .last .1 .1 .1 .1 .1 .0)) (c .before .before .before .behind .given .1) (y .ensures) in
+    let y = c8 .before .before .before .before .before .ordered-lines in
+    let w = subst (OrderedAs (said (a .h)) (a .s .now) (y .last .1 .1 .1 .0) (y .last .1 .1 .1 .1 .1 .0)) (c .before .before .before .behind .given .1)
+    (y .ensures) in
     record {
       within = w .within;
       places = omega (arith, w .line, p .places);
@@ -26,17 +30,23 @@ symbol-lines-requires c κs =
 
 returns : tie.Need-returns
 returns c =
-    let a = c .before .before .before .before .before .before .before .before .before .before .before .before .before .before .before .before .before .before .before .before .before .before .before .args in
-    let y = c .before .before .before .before .before .before .before .before .before .before .before .ordered-lines in
+    let c8 = c .before .before .before .before .before .before .before .before in
+    let c16 = c8 .before .before .before .before .before .before .before .before in
+    let a = c16 .before .before .before .before .before .before .before .args in
+    let y = c8 .before .before .before .ordered-lines in
     subst (OrderedAs (said (a .h)) (a .s .now) (y .last .1 .1 .1 .0) (y .last .1 .1 .1 .1 .1 .0)) (c .before .r .given .1) (y .ensures)
 
 returns-2 : tie.Need-returns-2
 returns-2 c =
-    let a = c .before .before .before .before .before .before .before .before .before .before .before .before .before .before .before .before .before .before .before .before .before .before .before .before .before .before .before .before .before .before .args in
-    let y = c .before .before .before .before .before .before .before .before .before .before .before .before .before .before .before .before .before .before .ordered-lines in
-    let g = c .before .before .before .before .before .before .before .before .behind .given in
+    let c8 = c .before .before .before .before .before .before .before .before in
+    let c16 = c8 .before .before .before .before .before .before .before .before in
+    let c24 = c16 .before .before .before .before .before .before .before .before in
+    let a = c24 .before .before .before .before .before .before .args in
+    let y = c16 .before .before .ordered-lines in
+    let g = c8 .behind .given in
     let s = c .before .before .before .before .symbol-lines in
-    text-as (said (a .h)) (a .s .now) (y .last .1 .1 .1 .0) (y .last .1 .1 .1 .1 .1 .0) (g .0 .0) (subst (OrderedAs (said (a .h)) (a .s .now) (y .last .1 .1 .1 .0) (y .last .1 .1 .1 .1 .1 .0)) (g .1) (y .ensures))
+    text-as (said (a .h)) (a .s .now) (y .last .1 .1 .1 .0) (y .last .1 .1 .1 .1 .1 .0) (g .0 .0)
+    (subst (OrderedAs (said (a .h)) (a .s .now) (y .last .1 .1 .1 .0) (y .last .1 .1 .1 .1 .1 .0)) (g .1) (y .ensures))
     (s .last .1 .1 .1 .1 .0) (s .result) (s .ensures)
 
 pub text-lines-spec : {M : Type 1} → statement M

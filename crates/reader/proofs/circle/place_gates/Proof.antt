@@ -12,9 +12,11 @@ use Rattle.reader.proofs.circle.place_gates.Tie as tie
 
 slice-aggregate-order-of : tie.Need-slice-aggregate-order-of
 slice-aggregate-order-of c =
-    let a = c .before .before .before .before .before .before .before .before .before .before .before .before .before .before .before .before .before .args in
+    let c8 = c .before .before .before .before .before .before .before .before in
+    let c16 = c8 .before .before .before .before .before .before .before .before in
+    let a = c16 .before .args in
     let u = c .before .before .before .uses-of in
-    sym (length-take-le (2 * a .h .gates) (u .last .1 .1 .1 .1 .0) (omega (arith, u .kept .1 .1 .1 .1 .0, c .before .before .before .before .before .before .before .before .before .before .before .before .before .before .before .before .before .pre .uses-all)))
+    sym (length-take-le (2 * a .h .gates) (u .last .1 .1 .1 .1 .0) (omega (arith, u .kept .1 .1 .1 .1 .0, c16 .before .pre .uses-all)))
 
 returns : tie.Need-returns
 returns c =

@@ -17,7 +17,10 @@ use Rattle.reader.proofs.column.circuit_of.Statement.{statement}
 use Rattle.reader.proofs.column.circuit_of.Tie as tie
 
 input-column-requires : tie.Need-input-column-requires
-input-column-requires c κs = (omega (arith, c .before .before .before .before .before .pre .inside), c .before .before .before .before .before .pre .few .inputs)
+input-column-requires c κs = (
+  omega (arith, c .before .before .before .before .before .pre .inside),
+  c .before .before .before .before .before .pre .few .inputs,
+)
 
 latch-column-requires : tie.Need-latch-column-requires
 latch-column-requires c κs =
@@ -41,8 +44,9 @@ gate-column-requires-2 c κs =
 
 gate-column-requires-3 : tie.Need-gate-column-requires-3
 gate-column-requires-3 c κs =
-    let a = c .before .before .before .before .before .before .before .before .before .before .args in
-    ordered-room (said (a .h)) (a .rows .now) (a .order .now) 2 (omega arith) (c .before .before .before .before .before .before .before .before .before .before .pre)
+    let c8 = c .before .before .before .before .before .before .before .before in
+    let a = c8 .before .before .args in
+    ordered-room (said (a .h)) (a .rows .now) (a .order .now) 2 (omega arith) (c8 .before .before .pre)
 
 place-column-requires : tie.Need-place-column-requires
 place-column-requires c κs =
@@ -53,19 +57,22 @@ cast-t17 : tie.Need-cast-t17
 cast-t17 c = omega (arith, c .before .before .before .before .before .before .before .before .before .before .before .before .before .pre .few .largest)
 
 shared-slice-read-t21 : tie.Need-shared-slice-read-t21
-shared-slice-read-t21 c = omega (arith, c .before .before .before .before .before .before .before .before .before .before .before .before .before .before .pre .inside)
+shared-slice-read-t21 c =
+    let c8 = c .before .before .before .before .before .before .before .before in
+    omega (arith, c8 .before .before .before .before .before .before .pre .inside)
 
 returns : tie.Need-returns
 unfolding valueOf cell
 returns c =
-    let a = c .before .before .before .before .before .before .before .before .before .before .before .before .before .before .args in
+    let c8 = c .before .before .before .before .before .before .before .before in
+    let a = c8 .before .before .before .before .before .before .args in
     λ x.
     record {
       largest = a .h .largest;
       inputs = a .h .inputs;
       latches = a .h .latches;
       gates = a .h .gates;
-      input = c .before .before .before .before .before .before .before .before .input-column .ensures x;
+      input = c8 .input-column .ensures x;
       controllable = a .controllable;
       latch = c .before .before .before .before .before .before .before .latch-column .ensures x;
       next = c .before .before .before .before .before .before .latch-column2 .ensures x;
@@ -73,7 +80,8 @@ returns c =
       gate = c .before .before .before .before .before .gate-column .ensures x;
       left = c .before .before .before .before .gate-column2 .ensures x;
       right = c .before .before .before .gate-column3 .ensures x;
-      lines = (c .before .before .place-column .ensures ∙ ap (λ (n : ℕ). padded (base .variable) (table (placeIn (a .order .now)) n)) (c .before .before .before .before .before .before .before .before .before .before .before .before .before .before .pre .ordered .long)) x;
+      lines = (c .before .before .place-column .ensures ∙ ap (λ (n : ℕ). padded (base .variable) (table (placeIn (a .order .now)) n))
+          (c8 .before .before .before .before .before .before .pre .ordered .long)) x;
     }
 
 pub circuit-of-spec : {M : Type 1} → statement M

@@ -14,7 +14,8 @@ ordered-column-requires c κs =
     subst (OrderedRoom (a .rows .now) (a .start) (a .order .now) (a .which)) (sym (c .before .no-gates .ensures)) (c .before .before .before .before .pre)
 
 returns : tie.Need-returns
-returns c = column-is (base .variable) (c .before .before .before .no-gates .result) _ _ (c .before .before .before .no-gates .ensures) (c .before .ordered-column .ensures)
+returns c = column-is (base .variable) (c .before .before .before .no-gates .result) _ _ (c .before .before .before .no-gates .ensures)
+    (c .before .ordered-column .ensures)
 
 pub gate-column-spec : {M : Type 1} → statement M
 gate-column-spec =

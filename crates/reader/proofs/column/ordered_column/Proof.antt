@@ -26,12 +26,15 @@ inside rows start order which out k gate room h e = omega (arith, room .inside k
 loop-holds : tie.Need-loop-holds Inv-loop μ-loop
 loop-holds c =
     let a = c .before .before .before .args in
-    filling-starts (orderedAt (a .rows .now) (a .start) (a .order .now) (a .which)) (length (a .order .now)) (a .out .now) (c .before .before .before .pre .zeros)
+    filling-starts (orderedAt (a .rows .now) (a .start) (a .order .now) (a .which)) (length (a .order .now)) (a .out .now)
+    (c .before .before .before .pre .zeros)
 
-row : (c : tie.After-wide Inv-loop μ-loop) → 3 * (c .before .before .before .before .before .before .before .args .start + c .wide .result + 1) ≤ length (c .before .before .before .before .before .before .before .args .rows .now)
+row : (c : tie.After-wide Inv-loop μ-loop) → 3 * (c .before .before .before .before .before .before .before .args .start + c .wide .result + 1) ≤
+    length (c .before .before .before .before .before .before .before .args .rows .now)
 row c =
     let a = c .before .before .before .before .before .before .before .args in
-    inside (a .rows .now) (a .start) (a .order .now) (a .which) (a .out .now) (c .before .before .before .loop .k) (c .wide .result) (c .before .before .before .before .before .before .before .pre)
+    inside (a .rows .now) (a .start) (a .order .now) (a .which) (a .out .now) (c .before .before .before .loop .k) (c .wide .result)
+    (c .before .before .before .before .before .before .before .pre)
     (c .before .before .loop-test .taken) (c .wide .ensures)
 
 add-line : tie.Need-add-line Inv-loop μ-loop
@@ -54,7 +57,8 @@ unfolding cell
 loop-again c =
     let a = c .before .before .before .before .before .before .before .before .args in
     let l = c .before .before .before .before .loop in
-    filling-more (orderedAt (a .rows .now) (a .start) (a .order .now) (a .which)) (length (a .order .now)) (a .out .now) (c .before .before .before .before .before .before .before .before .pre .room)
+    filling-more (orderedAt (a .rows .now) (a .start) (a .order .now) (a .which)) (length (a .order .now)) (a .out .now)
+    (c .before .before .before .before .before .before .before .before .pre .room)
     (l .out) (l .k) (l .inv) (c .before .before .before .loop-test .taken) (getD (a .rows .now) (3 * (a .start + c .before .wide .result) + a .which) 0)
     (ap (λ (g : ℕ). getD (a .rows .now) (3 * (a .start + g) + a .which) 0) (c .before .wide .ensures))
 
@@ -62,7 +66,8 @@ returns : tie.Need-returns Inv-loop μ-loop
 returns c =
     let a = c .before .before .before .before .before .args in
     let l = c .before .loop in
-    filling-ends (orderedAt (a .rows .now) (a .start) (a .order .now) (a .which)) (length (a .order .now)) (a .out .now) (c .before .before .before .before .before .pre .room)
+    filling-ends (orderedAt (a .rows .now) (a .start) (a .order .now) (a .which)) (length (a .order .now)) (a .out .now)
+    (c .before .before .before .before .before .pre .room)
     (l .out) (l .k) (l .inv) (c .loop-test .left)
     ∙ ap (padded (length (a .out .now))) (ordered-column-table (a .rows .now) (a .start) (a .order .now) (a .which))
 

@@ -11,7 +11,8 @@ put-places-requires : tie.Need-put-places-requires
 put-places-requires c κs = subst (PlaceRoom (c .before .before .before .args .order .now)) (sym (c .before .no-gates .ensures)) (c .before .before .before .pre)
 
 returns : tie.Need-returns
-returns c = column-is (base .variable) (c .before .before .before .no-gates .result) _ _ (c .before .before .before .no-gates .ensures) (c .before .put-places .ensures)
+returns c = column-is (base .variable) (c .before .before .before .no-gates .result) _ _ (c .before .before .before .no-gates .ensures)
+    (c .before .put-places .ensures)
 
 pub place-column-spec : {M : Type 1} → statement M
 place-column-spec =

@@ -22,7 +22,12 @@ loop-holds c =
 below : (c : tie.After-wide Inv-loop μ-loop) → c .wide .result < length (c .before .before .before .before .before .before .args .order .now)
 below c =
     let a = c .before .before .before .before .before .before .args in
-    omega (arith, c .wide .ensures, gate-below (a .order .now) (a .out .now) (c .before .before .before .before .before .before .pre) (c .before .before .before .loop .k) (c .before .before .loop-test .taken))
+    omega (
+      arith,
+      c .wide .ensures,
+      gate-below (a .order .now) (a .out .now) (c .before .before .before .before .before .before .pre)
+          (c .before .before .before .loop .k) (c .before .before .loop-test .taken),
+    )
 
 cast-out : tie.Need-cast-out Inv-loop μ-loop
 cast-out c = search (needs, c .before .before .before .before .before .before .pre .few, c .before .before .before .before .before .before .pre .room)
@@ -35,7 +40,8 @@ loop-again c =
     let a = c .before .before .before .before .before .before .args in
     let l = c .before .before .before .loop in
     subst (λ (g : ℕ). Standing (a .order .now) (a .out .now) (set (l .out) g (l .k)) (l .k + 1)) (sym (c .wide .ensures))
-    (standing-more (a .order .now) (a .out .now) (c .before .before .before .before .before .before .pre) (l .out) (l .k) (l .inv) (c .before .before .loop-test .taken))
+    (standing-more (a .order .now) (a .out .now) (c .before .before .before .before .before .before .pre) (l .out) (l .k) (l .inv)
+    (c .before .before .loop-test .taken))
 
 returns : tie.Need-returns Inv-loop μ-loop
 returns c =

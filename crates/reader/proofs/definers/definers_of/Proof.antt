@@ -21,17 +21,20 @@ loop-holds c =
 
 loop-again : tie.Need-loop-again Inv-loop μ-loop
 loop-again c =
-    let a = c .before .before .before .before .before .before .before .before .before .args in
+    let c8 = c .before .before .before .before .before .before .before .before in
+    let a = c8 .before .args in
     let l = c .before .before .before .before .before .before .loop in
     let put = c .before .before .put-definer in
-    entered-more (a .rows .now) (a .start) (a .gates) (a .definers .now) (c .before .before .before .before .before .before .before .before .before .pre) (l .definers) (l .j) (l .inv) (c .before .before .before .before .before .loop-test .taken)
+    entered-more (a .rows .now) (a .start) (a .gates) (a .definers .now) (c8 .before .pre) (l .definers) (l .j) (l .inv)
+    (c .before .before .before .before .before .loop-test .taken)
     (getD (a .rows .now) (3 * (a .start + l .j)) 0) (put .last .0) refl (put .ensures)
 
 returns : tie.Need-returns Inv-loop μ-loop
 returns c =
     let a = c .before .before .before .before .args in
     let l = c .before .loop in
-    entered-ends (a .rows .now) (a .start) (a .gates) (a .definers .now) (c .before .before .before .before .pre) (l .definers) (l .j) (l .inv) (c .loop-test .left)
+    entered-ends (a .rows .now) (a .start) (a .gates) (a .definers .now) (c .before .before .before .before .pre) (l .definers) (l .j) (l .inv)
+    (c .loop-test .left)
 
 pub definers-of-spec : {M : Type 1} → statement M
 definers-of-spec =

@@ -34,7 +34,11 @@ abbrev μ-loop : tie.MeasureT-loop
 μ-loop h rows defined n k₀ k = h .latches + 1 + h .gates - k
 
 loop-holds : tie.Need-loop-holds Inv-loop μ-loop
-loop-holds c = (known-start (c .before .before .before .before .args .defined .now) (literals (said (c .before .before .before .before .args .h)) (c .before .before .before .before .args .rows .now)), omega arith)
+loop-holds c = (
+  known-start (c .before .before .before .before .args .defined .now)
+      (literals (said (c .before .before .before .before .args .h)) (c .before .before .before .before .args .rows .now)),
+  omega arith,
+)
 
 uses-unknown-requires : tie.Need-uses-unknown-requires Inv-loop μ-loop
 uses-unknown-requires c κs = (omega (arith, c .loop-test .taken), c .before .before .before .before .before .before .pre)

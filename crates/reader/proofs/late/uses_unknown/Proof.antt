@@ -14,7 +14,8 @@ returns : tie.Need-returns
 unfolding lateAt cell anyUnmarked
 returns c =
     let a = c .before .before .before .before .before .before .before .before .args in
-    rw (eq-eqb (a .k) (a .h .latches) (c .before .before .before .if1 .taken), or-false _, add-zero (3 * (a .h .inputs + a .k))) (c .is-unknown .ensures ∙ rw (c .before .widen .ensures))
+    rw (eq-eqb (a .k) (a .h .latches) (c .before .before .before .if1 .taken), or-false _, add-zero (3 * (a .h .inputs + a .k)))
+    (c .is-unknown .ensures ∙ rw (c .before .widen .ensures))
 
 returns-2 : tie.Need-returns-2
 unfolding lateAt cell anyUnmarked
@@ -26,9 +27,15 @@ returns-2 c =
 returns-3 : tie.Need-returns-3
 unfolding lateAt cell anyUnmarked
 returns-3 c =
-    let a = c .before .before .before .before .before .before .before .before .before .before .before .before .before .args in
-    rw (ne-eqb (a .k) (a .h .latches) (c .before .before .before .before .before .before .before .before .if1 .left), le-ltb (a .k) (a .h .latches) (c .before .before .before .before .if2 .left), or-false _)
-    (c .either .ensures ∙ rw (c .before .before .before .before .before .is-unknown2 .ensures, c .before .before .before .before .before .before .widen2 .ensures, c .before .is-unknown3 .ensures, c .before .before .widen3 .ensures))
+    let c8 = c .before .before .before .before .before .before .before .before in
+    let a = c8 .before .before .before .before .before .args in
+    rw (ne-eqb (a .k) (a .h .latches) (c8 .if1 .left), le-ltb (a .k) (a .h .latches) (c .before .before .before .before .if2 .left), or-false _)
+    (c .either .ensures ∙ rw (
+      c .before .before .before .before .before .is-unknown2 .ensures,
+      c .before .before .before .before .before .before .widen2 .ensures,
+      c .before .is-unknown3 .ensures,
+      c .before .before .widen3 .ensures,
+    ))
 
 pub uses-unknown-spec : {M : Type 1} → statement M
 uses-unknown-spec =

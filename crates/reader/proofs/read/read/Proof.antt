@@ -48,23 +48,26 @@ ends c = line-ends-within (c .before .before .before .args .file .now) 0 (c .lin
 
 read-lines-requires : tie.Need-read-lines-requires
 read-lines-requires c κs =
-    let file = c .before .before .before .before .before .before .before .before .before .before .before .args .file .now in
-    let e = c .before .before .before .before .before .before .before .before .line-end in
+    let c8 = c .before .before .before .before .before .before .before .before in
+    let file = c8 .before .before .before .args .file .now in
+    let e = c8 .line-end in
     record {
-      file = omega (arith, c .before .before .before .before .before .before .before .before .before .if1 .left, length-take (length file - e .result) (drop (e .result) file), length-drop (e .result) file);
+      file = omega (arith, c8 .before .if1 .left, length-take (length file - e .result) (drop (e .result) file), length-drop (e .result) file);
       few = within-says (said (c .before .before .before .before .h .given .0 .0)) (sym (c .before .before .within .ensures) ∙ c .before .if2 .taken);
     }
 
 returns-3 : tie.Need-returns-3
 returns-3 c =
-    let file = c .before .before .before .before .before .before .before .before .before .before .before .before .args .file .now in
-    let e = c .before .before .before .before .before .before .before .before .before .line-end in
+    let c8 = c .before .before .before .before .before .before .before .before in
+    let file = c8 .before .before .before .before .args .file .now in
+    let e = c8 .before .line-end in
     let line : take (e .result) file ≡ firstLine file = first-part file (e .result) (e .ensures) in
     let g = c .before .before .before .before .before .h .given in
     let is = subst (HeadedAs (take (e .result) file)) (g .1) (c .before .before .before .before .before .before .before .header-line .ensures) in
     subst (λ (o : Outcome Circuit). ReadAs o (c .read-lines .result))
     (ap (λ (l : List ℕ). circuitOfLines (linesRead (said (g .0 .0)) (lines l))) (rest-part file (e .result))
-    ∙ sym (circuit-lines file (c .before .before .before .before .before .before .before .before .before .before .if1 .left) (said (g .0 .0)) (rw line at is) (sym (c .before .before .before .within .ensures) ∙ c .before .before .if2 .taken)
+    ∙ sym (circuit-lines file (c8 .before .before .if1 .left) (said (g .0 .0)) (rw line at is)
+    (sym (c .before .before .before .within .ensures) ∙ c .before .before .if2 .taken)
     (e .result) (e .ensures)))
     (c .read-lines .ensures)
 
