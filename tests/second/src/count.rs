@@ -80,7 +80,10 @@ impl Count {
         for (name, count) in departures::NAMES.iter().zip(self.departures) {
             text.push_str(&format!("passed with {name} {count}\n"));
         }
-        let circuit_numbers: usize = (1..=9).chain([16]).map(|number| self.of_number(number)).sum();
+        let circuit_numbers: usize = (1..=9)
+            .chain([16])
+            .map(|number| self.of_number(number))
+            .sum();
         text.push_str(&format!("refused 1 to 9 and 16 {circuit_numbers}\n"));
         self.add_numbers(&mut text, &[11, 12, 13, 14, 15]);
         text

@@ -195,14 +195,17 @@ fn undefined(draft: &mut Draft, random: &mut Random) {
         _ if line < output => 1,
         _ => random.between(1, 2),
     };
+    let Some(used) = literals.get_mut(field) else {
+        return;
+    };
     n[0] = (n[0] + 1).min(Circuit::LARGEST_VARIABLE);
-    literals[field] = 2 * n[0] + random.below(2);
+    *used = 2 * n[0] + random.below(2);
     draft.set_header(&n);
     draft.set_literals(line, &literals);
 }
 
 /// Number 16: from a gate some steps down to operands that are gates, and
-/// back to it; no step makes a gate its own operand.
+/// back to it; with no step the gate is its own operand.
 fn circle(draft: &mut Draft, random: &mut Random) {
     let Some(n) = draft.header_numbers() else {
         return;

@@ -24,7 +24,12 @@ fn operands(gates: &[Gate]) -> Vec<Vec<usize>> {
         definer[gate.literal / 2] = Some(k);
     }
     let find = |literal: usize| definer.get(literal / 2).copied().flatten();
-    let of = |gate: &Gate| [gate.left, gate.right].into_iter().filter_map(find).collect();
+    let of = |gate: &Gate| {
+        [gate.left, gate.right]
+            .into_iter()
+            .filter_map(find)
+            .collect()
+    };
     gates.iter().map(of).collect()
 }
 
