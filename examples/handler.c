@@ -60,7 +60,7 @@ int main(int count, char **words) {
         dprintf(2, "handler: %s\n", krastopi_text(passed.number));
         return 1;
     }
-    if (passed.kind != KRASTOPI_REPLIES) {
+    if (passed.kind == KRASTOPI_ATTACKS) {
         printf("unrealizable: the certificate has attacks, and no replies\n");
         return 20;
     }

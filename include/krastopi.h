@@ -2,19 +2,20 @@
    of docs/FORMAT.md). It links into x86-64 programs: `rt staticlib capi` makes target/staticlib/libcapi.a.
 
    Lent bytes are a pointer, which isn't NULL, and a count. A buffer that is written to overlaps no other. Nothing is kept after a call, and
-   nothing is allocated; 4 MiB of stack are enough for krastopi_certify, 1 MiB for every other function. In an answer number 0 says that
-   nothing was refused; after a refusal all but number and place is 0, and no byte is written. L, U and C count latches, uncontrollable
-   and controllable inputs. */
+   nothing is allocated; 4 MiB of stack are enough for krastopi_certify and krastopi_certify_packed, 1 MiB for every other function. In an
+   answer number 0 says that nothing was refused; after a refusal all but number and place is 0, and no byte is written. L, U and C count
+   latches, uncontrollable and controllable inputs. */
 #ifndef KRASTOPI_H
 #define KRASTOPI_H
 
-#define KRASTOPI_VERSION 2 /* of this header and library: a greater one when a struct, a function or a number changes */
+#define KRASTOPI_VERSION 3 /* of this header and library: a greater one when a struct, a function or a number changes */
 
 #define KRASTOPI_FILE 16384        /* bytes of the longest file that is taken */
 #define KRASTOPI_PRINT 15157       /* bytes of the longest print */
 #define KRASTOPI_CERTIFICATE 49298 /* bytes of the longest certificate that is written */
 #define KRASTOPI_REPLIES 3         /* the kinds of a certificate's table */
 #define KRASTOPI_ATTACKS 4
+#define KRASTOPI_PACKED 5 /* replies of C bits each */
 
 #ifdef __cplusplus
 extern "C" {
@@ -62,7 +63,7 @@ static inline const char *krastopi_text(unsigned char number) {
         "The lent buffer is shorter than what must be written.",
         "A record is cut short, the kinds or their order are wrong, or bytes are left over.",
         "The circuit record differs from the circuit file.",
-        "The region, the replies or the attack table has the wrong length, or an unused region bit is 1.",
+        "The region, the replies or the attack table has the wrong length, or an unused bit is 1.",
         "State 0 isn't in the region, or has rank 0.",
         "A step rule is broken; the place is state x 2^U + reading, or the state in an attack table.",
         "A gate reaches itself through gates.",
@@ -92,8 +93,8 @@ struct krastopi_certify_answer {
 struct krastopi_check_answer {
     unsigned char number;
     krastopi_count place;
-    unsigned short kind;                              /* KRASTOPI_REPLIES or KRASTOPI_ATTACKS */
-    krastopi_count region, table, latches, readings; /* the starts of region and table, L and U; attacks have no region */
+    unsigned short kind; /* KRASTOPI_REPLIES, KRASTOPI_PACKED or KRASTOPI_ATTACKS */
+    krastopi_count region, table, latches, readings, controls; /* the starts of region and table, L, U and C; attacks: region and C are 0 */
 };
 
 struct krastopi_print_answer {
@@ -116,7 +117,11 @@ struct krastopi_step_answer krastopi_step(const unsigned char *file, krastopi_co
 struct krastopi_certify_answer krastopi_certify(const unsigned char *file, krastopi_count file_bytes, unsigned char *out,
                                                 krastopi_count out_bytes);
 
-/* Whether a certificate passes for the file: the kind of its table, its starts, L and U. */
+/* The same, its replies packed: C bits each in place of a byte. */
+struct krastopi_certify_answer krastopi_certify_packed(const unsigned char *file, krastopi_count file_bytes, unsigned char *out,
+                                                       krastopi_count out_bytes);
+
+/* Whether a certificate passes for the file: the kind of its table, its starts, L, U and C. */
 struct krastopi_check_answer krastopi_check(const unsigned char *file, krastopi_count file_bytes, const unsigned char *certificate,
                                             krastopi_count certificate_bytes);
 

@@ -13,6 +13,8 @@ LEAST = {
     "passed with a larger rank": 50,
     "passed with a rank above 2^L": 50,
     "passed with a byte that isn't read": 50,
+    "passed with packed replies": 300,
+    "passed with packed bits that aren't read": 50,
 }
 
 

@@ -1,5 +1,5 @@
 /* Calls the library for the tests. A case on standard input is a function, whether the lent bytes are fenced, the counts of file,
-   certificate and buffer, six numbers, then the bytes of file and certificate. The answer on standard output is eight numbers, a byte that
+   certificate and buffer, eight numbers, then the bytes of file and certificate. The answer on standard output is eight numbers, a byte that
    is 1 if every guard stands and the bytes that were only lent to be read are as they were, and the whole buffer. Counts have four bytes
    and numbers eight, little-endian.
 
@@ -17,8 +17,8 @@ void *mmap(void *at, unsigned long bytes, int protection, int flags, int fd, lon
 int mprotect(void *at, unsigned long bytes, int protection);
 void exit(int status);
 
-enum { READ, STEP, CERTIFY, CHECK, PRINT, CIRCUIT_RECORD, REGION_BIT, REPLY, RANK, ATTACK };
-enum { GUARD = 64, PAGE = 4096, ROOM = 40 * PAGE, NUMBERS = 6, ANSWERS = 8 };
+enum { READ, STEP, CERTIFY, CERTIFY_PACKED, CHECK, PRINT, CIRCUIT_RECORD, REGION_BIT, REPLY, RANK, ATTACK };
+enum { GUARD = 64, PAGE = 4096, ROOM = 40 * PAGE, NUMBERS = 8, ANSWERS = 8 };
 
 /* Memory that is followed by a fence, a copy of what was lent, and what is lent now. */
 struct space {
@@ -110,7 +110,7 @@ static int unchanged(const struct space *s) { return memcmp(s->copy, s->lent, s-
 static void call(int function, const unsigned long *n, unsigned long *a) {
     const byte *f = file.lent, *c = certificate.lent;
     krastopi_count fs = file.bytes, cs = certificate.bytes;
-    struct krastopi_check_answer passed = {0, 0, 0, n[0], n[1], n[2], n[3]};
+    struct krastopi_check_answer passed = {0, 0, (unsigned short)n[7], n[0], n[1], n[2], n[3], n[6]};
     switch (function) {
     case READ: {
         struct krastopi_read_answer r = krastopi_read(f, fs);
@@ -127,9 +127,15 @@ static void call(int function, const unsigned long *n, unsigned long *a) {
         a[0] = r.number, a[1] = r.place, a[2] = r.realizable, a[3] = r.bytes;
         break;
     }
+    case CERTIFY_PACKED: {
+        struct krastopi_certify_answer r = krastopi_certify_packed(f, fs, out.lent, out.bytes);
+        a[0] = r.number, a[1] = r.place, a[2] = r.realizable, a[3] = r.bytes;
+        break;
+    }
     case CHECK: {
         struct krastopi_check_answer r = krastopi_check(f, fs, c, cs);
         a[0] = r.number, a[1] = r.place, a[2] = r.kind, a[3] = r.region, a[4] = r.table, a[5] = r.latches, a[6] = r.readings;
+        a[7] = r.controls;
         break;
     }
     case PRINT: {

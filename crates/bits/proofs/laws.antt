@@ -3,6 +3,10 @@ pub mod Bit
 pub mod ByteBit
 pub mod BitBytes
 pub mod UnusedBits
+pub mod UnusedBytes
+pub mod Gathered
+pub mod Packed
+pub mod PackedBits
 pub mod Bytes
 pub mod Wrote
 pub mod InTurn

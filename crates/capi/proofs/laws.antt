@@ -1,3 +1,4 @@
 pub mod Counts
 pub mod Part
+pub mod Stored
 pub mod Zero

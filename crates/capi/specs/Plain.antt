@@ -7,7 +7,7 @@ use lib.ListN.{length}
 use Rattle.checker.specs.Answer.{Starts, ofReplies, ofAttacks}
 use Rattle.circuit.specs.Circuit.{Circuit, latchCount, uncontrollableCount, controllableCount}
 use Rattle.circuit.specs.Outcome.{Outcome, taken, refused}
-use Rattle.records.specs.Record.{Split, whole, cut, circuitKind, replyKind, attackKind, headLength}
+use Rattle.records.specs.Record.{Split, whole, cut, circuitKind, attackKind, headLength}
 use Rattle.step.specs.declared.Stepped.{Stepped}
 use Rattle.writer.specs.Answer.{Verdict}
 use Rattle.capi.specs.declared.CertifyAnswer.{CertifyAnswer}
@@ -31,9 +31,12 @@ certifyAnswer (refused number place) = record { number = number; place = place; 
 
 -- the kind is that of the record of replies or attacks
 unfoldable pub checkAnswer : Outcome Starts → CheckAnswer
-checkAnswer (taken (ofReplies region table L U)) = record { number = 0; place = 0; kind = replyKind; region = region; table = table; latches = L; readings = U }
-checkAnswer (taken (ofAttacks table L U)) = record { number = 0; place = 0; kind = attackKind; region = 0; table = table; latches = L; readings = U }
-checkAnswer (refused number place) = record { number = number; place = place; kind = 0; region = 0; table = 0; latches = 0; readings = 0 }
+checkAnswer (taken (ofReplies region table kind L U C)) =
+    record { number = 0; place = 0; kind = kind; region = region; table = table; latches = L; readings = U; controls = C }
+checkAnswer (taken (ofAttacks table L U)) =
+    record { number = 0; place = 0; kind = attackKind; region = 0; table = table; latches = L; readings = U; controls = 0 }
+checkAnswer (refused number place) =
+    record { number = number; place = place; kind = 0; region = 0; table = 0; latches = 0; readings = 0; controls = 0 }
 
 unfoldable pub printAnswer : Outcome ℕ → PrintAnswer
 printAnswer (taken n) = record { number = 0; place = 0; bytes = n }

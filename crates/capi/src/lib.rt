@@ -14,10 +14,11 @@ ghost use Rattle.file.specs.CircuitIn.{circuitIn};
 ghost use Rattle.printer.specs.FilePrinted.{filePrinted};
 ghost use Rattle.records.specs.AttackTable.{storedRank, storedAttack};
 ghost use Rattle.records.specs.Passed.{replyIn};
-ghost use Rattle.records.specs.Record.{split};
+ghost use Rattle.records.specs.Record.{split, replyKind, packedKind};
 ghost use Rattle.records.specs.RegionBits.{holdsState};
 ghost use Rattle.writer.specs.Answer.{certificateFor, verdictFor};
 ghost use Rattle.capi.specs.Plain.{readAnswer, stepAnswer, certifyAnswer, checkAnswer, printAnswer, circuitPart};
+ghost use Rattle.capi.specs.Stored.{storedOf};
 ghost use Rattle.capi.specs.Stepped.{fileStepped};
 
 // A reading of a file: its refusal, or L, U and C.
@@ -48,8 +49,8 @@ pub struct CertifyAnswer {
     pub bytes: usize,
 }
 
-// A check: its refusal, or the kind of the table (3 of replies, 4 of attacks), where region and table start, L and U. Attacks have no
-// region.
+// A check: its refusal, or the kind of the table (3 of replies, 5 of packed replies, 4 of attacks), where region and table start, L, U and C.
+// Attacks have no region and tell no C.
 #[repr(C)]
 pub struct CheckAnswer {
     pub number: u8,
@@ -59,6 +60,7 @@ pub struct CheckAnswer {
     pub table: usize,
     pub latches: usize,
     pub readings: usize,
+    pub controls: usize,
 }
 
 // A print: why nothing was written, or the count of bytes.
@@ -107,14 +109,24 @@ pub extern "C" fn krastopi_step(file: &[u8], state: u16, reading: u8, control: u
     }
 }
 
-// Writes the certificate of a file at the front of a buffer. A refusal writes nothing.
+// Writes the certificate of a file at the front of a buffer, a byte for each reply. A refusal writes nothing.
 #[no_mangle]
 pub extern "C" fn krastopi_certify(file: &[u8], out: &mut [u8]) -> CertifyAnswer
-    ensures { λ r. ⌜ r ≡ certifyAnswer (verdictFor (now (file .entry)) (circuitIn (now (file .entry))) (length (now (out .entry)))) ⌝ }
-    ensures { λ _. ⌜ now (out .exit)
-        ≡ bufferAfter (certificateFor (now (file .entry)) (circuitIn (now (file .entry))) (length (now (out .entry)))) (now (out .entry)) ⌝ }
+    ensures { λ r. ⌜ r ≡ certifyAnswer (verdictFor replyKind (now (file .entry)) (circuitIn (now (file .entry))) (length (now (out .entry)))) ⌝ }
+    ensures { λ _. ⌜ now (out .exit) ≡ bufferAfter (certificateFor replyKind (now (file .entry)) (circuitIn (now (file .entry)))
+        (length (now (out .entry)))) (now (out .entry)) ⌝ }
 {
     plain::certified(writer::certify(file, out))
+}
+
+// The same with packed replies.
+#[no_mangle]
+pub extern "C" fn krastopi_certify_packed(file: &[u8], out: &mut [u8]) -> CertifyAnswer
+    ensures { λ r. ⌜ r ≡ certifyAnswer (verdictFor packedKind (now (file .entry)) (circuitIn (now (file .entry))) (length (now (out .entry)))) ⌝ }
+    ensures { λ _. ⌜ now (out .exit) ≡ bufferAfter (certificateFor packedKind (now (file .entry)) (circuitIn (now (file .entry)))
+        (length (now (out .entry)))) (now (out .entry)) ⌝ }
+{
+    plain::certified(writer::certify_packed(file, out))
 }
 
 // Whether a certificate passes for a file.
@@ -161,7 +173,7 @@ pub extern "C" fn krastopi_region_bit(certificate: &[u8], passed: CheckAnswer, s
     records::passed::region_bit(certificate, passed.region, passed.latches, state)
 }
 
-// The reply to a reading at a state: the stored one inside the stored region, 0 outside.
+// The reply to a reading at a state, by the kind of the table: the stored one inside the stored region, 0 outside.
 #[no_mangle]
 pub extern "C" fn krastopi_reply(
     certificate: &[u8],
@@ -169,9 +181,21 @@ pub extern "C" fn krastopi_reply(
     state: usize,
     reading: usize,
 ) -> u8
-    ensures { λ r. ⌜ r ≡ replyIn (drop (passed .region) (now (certificate .entry))) (drop (passed .table) (now (certificate .entry)))
-        (passed .latches) (passed .readings) state reading ⌝ }
+    ensures { λ r. ⌜ r ≡ replyIn (drop (passed .region) (now (certificate .entry))) (passed .latches)
+        (storedOf passed (drop (passed .table) (now (certificate .entry)))) state reading ⌝ }
 {
+    if passed.kind == records::PACKED {
+        return records::passed::packed_reply(
+            certificate,
+            passed.region,
+            passed.table,
+            passed.latches,
+            passed.readings,
+            passed.controls,
+            state,
+            reading,
+        );
+    }
     records::passed::reply(
         certificate,
         passed.region,

@@ -114,16 +114,19 @@ pub(crate) fn checked(answer: Checked) -> CheckAnswer
         Checked::Replies {
             region,
             replies,
+            kind,
             latches,
             readings,
+            controls,
         } => CheckAnswer {
             number: 0,
             place: 0,
-            kind: records::REPLIES,
+            kind,
             region,
             table: replies,
             latches,
             readings,
+            controls,
         },
         Checked::Attacks {
             table,
@@ -137,6 +140,7 @@ pub(crate) fn checked(answer: Checked) -> CheckAnswer
             table,
             latches,
             readings,
+            controls: 0,
         },
         Checked::Refused(refusal) => CheckAnswer {
             number: refusal.number,
@@ -146,6 +150,7 @@ pub(crate) fn checked(answer: Checked) -> CheckAnswer
             table: 0,
             latches: 0,
             readings: 0,
+            controls: 0,
         },
     }
 }

@@ -8,6 +8,7 @@ use Rattle.checker.specs.Check.{checkOf}
 use Rattle.circuit.specs.Outcome.{Outcome, taken, refused, _>>=_}
 use Rattle.file.specs.CircuitIn.{circuitIn}
 use Rattle.listing.specs.Page.{pageOf}
+use Rattle.records.specs.Record.{replyKind}
 use Rattle.writer.specs.Certificate.{certificateOf}
 
 -- a file is solved, or the certificate of another file is checked against it
@@ -29,13 +30,13 @@ unfoldable pub lengthsOf : String → Outcome Lengths
 lengthsOf file =
     circuitIn (ascii file)
     >>= λ c.
-    taken (record { fileBytes = length (ascii file); certificateBytes = length (certificateOf (ascii file) c) })
+    taken (record { fileBytes = length (ascii file); certificateBytes = length (certificateOf replyKind (ascii file) c) })
 
 unfoldable pub answerTo : Asked → Told
 answerTo (solve file) = printed (pageOf (ascii file)) (lengthsOf file)
 answerTo (check file other) =
     checked
-    (circuitIn (ascii other) >>= λ c. checkOf (ascii file) (certificateOf (ascii other) c) >>= λ t. taken tt)
+    (circuitIn (ascii other) >>= λ c. checkOf (ascii file) (certificateOf replyKind (ascii other) c) >>= λ t. taken tt)
 
 abbrev pub P : String
 P = "aag 4 2 1 1 1\n2\n4\n6 4\n8\n8 2 5\ni1 controllable_hold\n"

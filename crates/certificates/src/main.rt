@@ -1,5 +1,5 @@
-// certificates CIRCUIT .. prints a line for each circuit file (01, "The certificate"): `NAME: VERDICT BYTES passed` of a certificate that
-// is written and then passes, else `refused`, number and place at the end.
+// certificates CIRCUIT .. prints two lines for each circuit file (01, "The certificate"): `NAME: VERDICT BYTES passed` of a certificate that
+// is written and then passes, else `refused`, number and place at the end; then the same of packed replies (02, T-07).
 use checker::Checked;
 use libc::STDOUT_FILENO;
 use writer::Certified;
@@ -29,14 +29,28 @@ fn certify_file(name: &[u8]) {
         let n = filled.bytes;
         io::write_all(STDOUT_FILENO, name);
         certify(&space[..n]);
+        io::write_all(STDOUT_FILENO, name);
+        io::write_all(STDOUT_FILENO, b", packed");
+        certify_packed(&space[..n]);
     }
 }
 
 fn certify(file: &[u8]) {
     let mut certificate = desk::blank_certificate();
-    match writer::certify(file, &mut certificate) {
-        Certified::Realizable(n) => check(file, &certificate, n, b": realizable "),
-        Certified::Unrealizable(n) => check(file, &certificate, n, b": unrealizable "),
+    let answer = writer::certify(file, &mut certificate);
+    check_certified(answer, file, &certificate);
+}
+
+fn certify_packed(file: &[u8]) {
+    let mut certificate = desk::blank_certificate();
+    let answer = writer::certify_packed(file, &mut certificate);
+    check_certified(answer, file, &certificate);
+}
+
+fn check_certified<'a>(answer: Certified, file: &'a [u8], certificate: &'a [u8]) {
+    match answer {
+        Certified::Realizable(n) => check(file, certificate, n, b": realizable "),
+        Certified::Unrealizable(n) => check(file, certificate, n, b": unrealizable "),
         Certified::Refused(refusal) => {
             io::write_all(STDOUT_FILENO, b": ");
             desk::print_refusal(refusal);

@@ -1,8 +1,9 @@
--- What the checker's answer says in 01's words (01, "The certificate": the starts of region and replies; "The numbers"). Assumes nothing.
+-- What the checker's answer says in 01's words (01, "The certificate": the starts of region and replies; "The numbers"; 02, T-07: kind
+-- and C, without which a packed table can't be read). Assumes nothing.
 use Prim.Native.Nat.{ℕ, _+_}
 use mathlib.Core.List.{List}
 use lib.ListN.{length}
-use Rattle.circuit.specs.Circuit.{Circuit, latchCount, uncontrollableCount}
+use Rattle.circuit.specs.Circuit.{Circuit, latchCount, uncontrollableCount, controllableCount}
 use Rattle.circuit.specs.Outcome.{Outcome, taken, refused, _>>=_}
 use Rattle.file.specs.CircuitIn.{circuitIn}
 use Rattle.records.specs.Record.{headLength}
@@ -13,20 +14,22 @@ use Rattle.checker.specs.Check.{checkOf}
 
 -- where the tables of a certificate start, and how its numbers are read
 pub data Starts : Type 0 where
-  ofReplies : (region table L U : ℕ) → Starts
+  ofReplies : (region table kind L U C : ℕ) → Starts
   ofAttacks : (table L U : ℕ) → Starts
 
 unfoldable pub startsOf : Circuit → Tables → Starts
 startsOf c (replies circuit region kind table) =
     ofReplies (headLength + length circuit + headLength)
     (headLength + length circuit + headLength + length region + headLength)
+    kind
     (latchCount c)
     (uncontrollableCount c)
+    (controllableCount c)
 startsOf c (attacks circuit table) =
     ofAttacks (headLength + length circuit + headLength) (latchCount c) (uncontrollableCount c)
 
 unfoldable pub checkedOutcome : Checked → Outcome Starts
-checkedOutcome (Replies region table L U) = taken (ofReplies region table L U)
+checkedOutcome (Replies region table kind L U C) = taken (ofReplies region table kind L U C)
 checkedOutcome (Attacks table L U) = taken (ofAttacks table L U)
 checkedOutcome (Refused r) = refused (r .number) (r .place)
 

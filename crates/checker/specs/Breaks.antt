@@ -9,10 +9,10 @@ use Rattle.checker.specs.StoredFor.{replyAt, rankAt, attackAt}
 use Rattle.checker.specs.StoredRegion.{Holds}
 
 -- at a state of the stored region the reply isn't below 2^C, gives error 1 or leads out of the stored region
-pub data ReplyBreaks (c : Circuit) (region table : List ℕ) (s r : ℕ) : Type 0 where
-  noControl : Holds region s → 2 ^ controllableCount c ≤ replyAt c table s r → ReplyBreaks c region table s r
-  errs : Holds region s → step c s r (replyAt c table s r) .error ≡ true → ReplyBreaks c region table s r
-  leadsOut : Holds region s → (Holds region (step c s r (replyAt c table s r) .next) → ⊥) → ReplyBreaks c region table s r
+pub data ReplyBreaks (c : Circuit) (region : List ℕ) (kind : ℕ) (table : List ℕ) (s r : ℕ) : Type 0 where
+  noControl : Holds region s → 2 ^ controllableCount c ≤ replyAt c kind table s r → ReplyBreaks c region kind table s r
+  errs : Holds region s → step c s r (replyAt c kind table s r) .error ≡ true → ReplyBreaks c region kind table s r
+  leadsOut : Holds region s → (Holds region (step c s r (replyAt c kind table s r) .next) → ⊥) → ReplyBreaks c region kind table s r
 
 -- a next state of rank 1 to k − 1, where k is a state's rank
 abbrev pub RankFalls : Circuit → (table : List ℕ) → (state next : ℕ) → Type 0

@@ -28,7 +28,7 @@ judgedBy bad reset broken lowest t = do
 -- of the tables of a certificate, for a circuit
 unfoldable pub tablesChecked : Circuit → Tables → Outcome Tables
 tablesChecked c (replies circuit region kind table) =
-    judgedBy (badReplyTables c region table) (resetOutside c region) (someReplyBroken c region table) (brokenReply c region table)
+    judgedBy (badReplyTables c region kind table) (resetOutside c region) (someReplyBroken c region kind table) (brokenReply c region kind table)
     (replies circuit region kind table)
 tablesChecked c (attacks circuit table) =
     judgedBy (badAttackTable c table) (resetUnranked c table) (someAttackBroken c table) (brokenAttack c table) (attacks circuit table)

@@ -22,7 +22,7 @@ pub data Judged (Wrong Reset : Type 0) (Lowest : ℕ → Type 0) (number place :
 -- what the tables of a certificate break
 abbrev pub TablesBroken : Circuit → Tables → (number place : ℕ) → Type 0
 TablesBroken c (replies circuit region kind table) number place =
-    Judged (WrongReplies c region table) (ResetNotHeld region) (LowestReply c region table) number place
+    Judged (WrongReplies c region kind table) (ResetNotHeld region) (LowestReply c region kind table) number place
 TablesBroken c (attacks circuit table) number place =
     Judged (WrongAttacks c table) (ResetOfRankZero c table) (LowestAttack c table) number place
 

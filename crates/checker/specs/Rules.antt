@@ -1,11 +1,11 @@
--- What the tables of a certificate must be (01, "The certificate", what passes; "The numbers", 13 to 15). Assumes nothing.
+-- What the tables of a certificate must be (01, "The certificate", what passes; "The numbers", 13 to 15; 02, T-07). Assumes nothing.
 use Prim.Native.Nat.{ℕ, _*_, _/_, _%_}
 use mathlib.Core.Bool.{Bool, not, _&&_, _||_}
 use mathlib.Core.List.{List}
 use lib.Dec.{eqb, ltb}
 use lib.ListN.{length}
 use Rattle.below.specs.Least.{least, any, every}
-use Rattle.circuit.specs.Circuit.{Circuit, latchCount, uncontrollableCount}
+use Rattle.circuit.specs.Circuit.{Circuit, latchCount, uncontrollableCount, controllableCount}
 use Rattle.circuit.specs.Reset.{isReset}
 use Rattle.game.specs.Game.{Game}
 use Rattle.game.specs.Attack.{attackBroken}
@@ -13,16 +13,21 @@ use Rattle.game.specs.CircuitGame.{circuitGame}
 use Rattle.game.specs.Reply.{replyBroken}
 use Rattle.records.specs.AttackTable.{attackLength}
 use Rattle.records.specs.RegionBits.{regionLength, unusedBitSet}
-use Rattle.records.specs.ReplyBytes.{replyLength}
+use Rattle.records.specs.ReplyTable.{tableLength, unusedReplyBit}
 use Rattle.checker.specs.StoredFor.{heldAt, replyAt, rankAt, attackAt}
 
--- 13: wrong length, or unused region bit 1
-abbrev pub badlySized : (region table : List ℕ) (L U : ℕ) → Bool
-badlySized region table L U =
-    not (eqb (length region) (regionLength L)) || not (eqb (length table) (replyLength L U)) || unusedBitSet region L
+-- 13: wrong length, or unused bit 1
+abbrev pub badRegion : (region : List ℕ) (L : ℕ) → Bool
+badRegion region L = not (eqb (length region) (regionLength L)) || unusedBitSet region L
 
-unfoldable pub badReplyTables : Circuit → (region table : List ℕ) → Bool
-badReplyTables c region table = badlySized region table (latchCount c) (uncontrollableCount c)
+abbrev pub badReplies : (kind : ℕ) (table : List ℕ) (L U C : ℕ) → Bool
+badReplies kind table L U C = not (eqb (length table) (tableLength kind L U C)) || unusedReplyBit kind table L U C
+
+abbrev pub badlySized : (region : List ℕ) (kind : ℕ) (table : List ℕ) (L U C : ℕ) → Bool
+badlySized region kind table L U C = badRegion region L || badReplies kind table L U C
+
+unfoldable pub badReplyTables : Circuit → (region : List ℕ) (kind : ℕ) (table : List ℕ) → Bool
+badReplyTables c region kind table = badlySized region kind table (latchCount c) (uncontrollableCount c) (controllableCount c)
 
 unfoldable pub badAttackTable : Circuit → (table : List ℕ) → Bool
 badAttackTable c table = not (eqb (length table) (attackLength (latchCount c)))
@@ -37,13 +42,13 @@ resetUnranked c table =
     every (λ s. not (isReset c s) || eqb (rankAt c table s) 0) (circuitGame c .states)
 
 -- 15: the lowest s × 2^U + reading at which a reply breaks the step rule, or 2^(L+U) where none does
-unfoldable pub brokenReply : Circuit → (region table : List ℕ) → ℕ
-brokenReply c region table =
+unfoldable pub brokenReply : Circuit → (region : List ℕ) (kind : ℕ) (table : List ℕ) → ℕ
+brokenReply c region kind table =
     let g = circuitGame c in
-    least (λ i. replyBroken g (heldAt c region) (replyAt c table) (i / g .readings) (i % g .readings)) (g .states * g .readings)
+    least (λ i. replyBroken g (heldAt c region) (replyAt c kind table) (i / g .readings) (i % g .readings)) (g .states * g .readings)
 
-abbrev pub someReplyBroken : Circuit → (region table : List ℕ) → Bool
-someReplyBroken c region table = ltb (brokenReply c region table) (circuitGame c .states * circuitGame c .readings)
+abbrev pub someReplyBroken : Circuit → (region : List ℕ) (kind : ℕ) (table : List ℕ) → Bool
+someReplyBroken c region kind table = ltb (brokenReply c region kind table) (circuitGame c .states * circuitGame c .readings)
 
 -- the lowest s whose attack breaks it, or 2^L where none does
 unfoldable pub brokenAttack : Circuit → (table : List ℕ) → ℕ

@@ -20,13 +20,15 @@ ghost use Rattle.file.specs.CircuitIn.{circuitIn};
 ghost use Rattle.checker.specs.Answer.{checkedOutcome, answerOf};
 ghost use Rattle.checker.specs.contracts.FileNet.{FileNet};
 
-// What a pass answers: where the tables start in the certificate, and L and U, so that they can be read.
+// What a pass answers: where the tables start in the certificate, the kind of the reply record, and L, U and C, so that they can be read.
 pub enum Checked {
     Replies {
         region: usize,
         replies: usize,
+        kind: u16,
         latches: usize,
         readings: usize,
+        controls: usize,
     },
     Attacks {
         table: usize,
@@ -81,6 +83,7 @@ fn check_net<'a>(net: &'a [u16], file: &'a [u8], certificate: &'a [u8]) -> Check
             region_end,
             table,
             table_end,
+            kind,
         } => {
             if !same_bytes(&certificate[HEAD..circuit_end], file) {
                 return Checked::Refused(Refusal {
@@ -91,6 +94,7 @@ fn check_net<'a>(net: &'a [u16], file: &'a [u8], certificate: &'a [u8]) -> Check
             check_replies(
                 net,
                 &certificate[region..region_end],
+                kind,
                 &certificate[table..table_end],
                 region,
                 table,

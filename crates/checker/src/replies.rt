@@ -1,13 +1,14 @@
-// The check of a reply certificate's tables (01, "The numbers", 13 to 15), over a net.
+// The check of a reply certificate's tables (01, "The numbers", 13 to 15; 02, T-07), over a net.
 use crate::Checked;
 use crate::counts::controls_of;
 use crate::counts::latches_of;
 use crate::counts::readings_of;
 use crate::power;
-use bits::bytes::byte_bit;
+use bits::packed::unused_bit;
 use blocks::LITERALS;
 use circuit::Refusal;
 use net::moves::move_of;
+use records::PACKED;
 use records::stored::holds_state;
 use records::stored::stored_reply;
 use rules::lane_keeps_region;
@@ -15,12 +16,10 @@ use step::Control;
 use step::Reading;
 ghost use Prim.Native.Nat.{_+_, _^_, _<_, _≤_};
 ghost use mathlib.Core.Path.{_≡_};
-ghost use lib.ListN.{length};
 ghost use Rattle.circuit.specs.Limits.{base};
 ghost use Rattle.net.specs.Net.{netLatches, netReadings};
-ghost use Rattle.records.specs.RegionBits.{unusedBitSet};
 ghost use Rattle.checker.specs.Answer.{checkedOutcome};
-ghost use Rattle.checker.specs.Rules.{badlySized};
+ghost use Rattle.checker.specs.Rules.{badReplies, badlySized};
 ghost use Rattle.checker.specs.contracts.Faults.{replyFault, firstReplyFault, replyMove};
 ghost use Rattle.checker.specs.contracts.Looked.{AtHand, Looked};
 ghost use Rattle.checker.specs.contracts.Sized.{Sized, Holding};
@@ -30,16 +29,18 @@ ghost use Rattle.checker.specs.contracts.TablesAs.{RepliesAs};
 pub(crate) fn check_replies<'a>(
     net: &'a [u16],
     region: &'a [u8],
+    kind: u16,
     table: &'a [u8],
     start: usize,
     replies: usize,
 ) -> Checked
     requires { ⌜ Sized (now net) ⌝ }
-    ensures { λ r. ⌜ RepliesAs (now (net .entry)) (now (region .entry)) (now (table .entry)) start replies (checkedOutcome r) ⌝ }
+    ensures { λ r. ⌜ RepliesAs (now (net .entry)) (now (region .entry)) kind (now (table .entry)) start replies (checkedOutcome r) ⌝ }
 {
     let latches = latches_of(net);
     let readings = readings_of(net);
-    if badly_sized(region, table, latches, readings) {
+    let controls = controls_of(net);
+    if badly_sized(region, kind, table, latches, readings, controls) {
         return Checked::Refused(Refusal {
             number: crate::BAD_TABLE,
             place: 0,
@@ -51,7 +52,7 @@ pub(crate) fn check_replies<'a>(
             place: 0,
         });
     }
-    let place = broken_reply(net, region, table);
+    let place = broken_reply(net, region, kind, table);
     if place < power(latches + readings) {
         return Checked::Refused(Refusal {
             number: crate::BROKEN_STEP,
@@ -61,48 +62,60 @@ pub(crate) fn check_replies<'a>(
     Checked::Replies {
         region: start,
         replies,
+        kind,
         latches,
         readings,
+        controls,
     }
 }
 
-// Whether a table has a wrong length or the region an unused bit that is 1.
-fn badly_sized<'a>(region: &'a [u8], table: &'a [u8], latches: usize, readings: usize) -> bool
+// Whether region or reply table has a wrong length or an unused bit that is 1.
+fn badly_sized<'a>(
+    region: &'a [u8],
+    kind: u16,
+    table: &'a [u8],
+    latches: usize,
+    readings: usize,
+    controls: usize,
+) -> bool
     requires { ⌜ latches ≤ base .latches ⌝ }
     requires { ⌜ readings ≤ base .uncontrollable ⌝ }
-    ensures { λ r. ⌜ r ≡ badlySized (now (region .entry)) (now (table .entry)) latches readings ⌝ }
+    requires { ⌜ controls ≤ base .controllable ⌝ }
+    ensures { λ r. ⌜ r ≡ badlySized (now (region .entry)) kind (now (table .entry)) latches readings controls ⌝ }
 {
-    if region.len() != (power(latches) + 7) / 8 {
+    let states = power(latches);
+    if region.len() != (states + 7) / 8 {
         return true;
     }
-    if table.len() != power(latches + readings) {
+    if unused_bit(region, states) {
         return true;
     }
-    unused_bit_set(region, latches)
+    bad_replies(kind, table, latches, readings, controls)
 }
 
-// Whether a bit of the region that stands for no state is 1.
-fn unused_bit_set(region: &[u8], latches: usize) -> bool
+// Whether a reply table has a wrong length for its kind or an unused bit that is 1.
+fn bad_replies(kind: u16, table: &[u8], latches: usize, readings: usize, controls: usize) -> bool
     requires { ⌜ latches ≤ base .latches ⌝ }
-    requires { ⌜ length (now region) ≤ 2 ^ base .latches ⌝ }
-    ensures { λ r. ⌜ r ≡ unusedBitSet (now (region .entry)) latches ⌝ }
+    requires { ⌜ readings ≤ base .uncontrollable ⌝ }
+    requires { ⌜ controls ≤ base .controllable ⌝ }
+    ensures { λ r. ⌜ r ≡ badReplies kind (now (table .entry)) latches readings controls ⌝ }
 {
-    let n = 8 * region.len();
-    let mut i = power(latches);
-    while i < n {
-        if byte_bit(region, i) {
-            return true;
-        }
-        i += 1;
+    let places = power(latches + readings);
+    if kind != PACKED {
+        return table.len() != places;
     }
-    false
+    let bits = controls * places;
+    if table.len() != (bits + 7) / 8 {
+        return true;
+    }
+    unused_bit(table, bits)
 }
 
 // The lowest s × 2^U + reading at which a reply breaks the step rule, or 2^(L+U) where none does. A block stays evaluated until a place needs
 // another one: with few controls it has the moves of several readings.
-fn broken_reply<'a>(net: &'a [u16], region: &'a [u8], table: &'a [u8]) -> usize
+fn broken_reply<'a>(net: &'a [u16], region: &'a [u8], kind: u16, table: &'a [u8]) -> usize
     requires { ⌜ Sized (now net) ⌝ }
-    ensures { λ r. ⌜ r ≡ firstReplyFault (now (net .entry)) (now (region .entry)) (now (table .entry)) ⌝ }
+    ensures { λ r. ⌜ r ≡ firstReplyFault (now (net .entry)) (now (region .entry)) kind (now (table .entry)) ⌝ }
 {
     let n = power(latches_of(net) + readings_of(net));
     let mut words = [0; LITERALS];
@@ -110,8 +123,8 @@ fn broken_reply<'a>(net: &'a [u16], region: &'a [u8], table: &'a [u8]) -> usize
     blocks::evaluate(net, block, &mut words);
     let mut i = 0;
     while i < n {
-        block = look_at(net, region, table, i, block, &mut words);
-        if reply_broken(net, &words, region, table, i) {
+        block = look_at(net, region, kind, table, i, block, &mut words);
+        if reply_broken(net, &words, region, kind, table, i) {
             return i;
         }
         i += 1;
@@ -123,6 +136,7 @@ fn broken_reply<'a>(net: &'a [u16], region: &'a [u8], table: &'a [u8]) -> usize
 fn look_at<'a>(
     net: &'a [u16],
     region: &'a [u8],
+    kind: u16,
     table: &'a [u8],
     place: usize,
     last: usize,
@@ -131,12 +145,12 @@ fn look_at<'a>(
     requires { ⌜ Sized (now net) ⌝ }
     requires { ⌜ place < 2 ^ (netLatches (now net) + netReadings (now net)) ⌝ }
     requires { ⌜ Holding (now net) last (now words) ⌝ }
-    ensures { λ r. ⌜ Looked (now (net .entry)) (now (region .entry)) (now (table .entry)) place r (now (words .exit)) ⌝ }
+    ensures { λ r. ⌜ Looked (now (net .entry)) (now (region .entry)) kind (now (table .entry)) place r (now (words .exit)) ⌝ }
 {
     if !holds_state(region, latches_of(net), place / power(readings_of(net))) {
         return last;
     }
-    let block = reply_move(net, table, place) / 64;
+    let block = reply_move(net, kind, table, place) / 64;
     if block == last {
         return last;
     }
@@ -145,20 +159,21 @@ fn look_at<'a>(
 }
 
 // The move of the stored reply at a place.
-fn reply_move<'a>(net: &'a [u16], table: &'a [u8], place: usize) -> usize
+fn reply_move<'a>(net: &'a [u16], kind: u16, table: &'a [u8], place: usize) -> usize
     requires { ⌜ Sized (now net) ⌝ }
     requires { ⌜ place < 2 ^ (netLatches (now net) + netReadings (now net)) ⌝ }
-    ensures { λ r. ⌜ r ≡ replyMove (now (net .entry)) (now (table .entry)) place ⌝ }
+    ensures { λ r. ⌜ r ≡ replyMove (now (net .entry)) kind (now (table .entry)) place ⌝ }
 {
     let latches = latches_of(net);
     let readings = readings_of(net);
     let state = place / power(readings);
     let reading = place % power(readings);
-    let reply = stored_reply(table, latches, readings, state, reading);
+    let controls = controls_of(net);
+    let reply = stored_reply(kind, table, latches, readings, controls, state, reading);
     move_of(
         latches,
         readings,
-        controls_of(net),
+        controls,
         state as u16,
         Reading(reading as u8),
         Control(reply),
@@ -170,13 +185,14 @@ fn reply_broken<'a>(
     net: &'a [u16],
     words: &'a [u64; LITERALS],
     region: &'a [u8],
+    kind: u16,
     table: &'a [u8],
     place: usize,
 ) -> bool
     requires { ⌜ Sized (now net) ⌝ }
     requires { ⌜ place < 2 ^ (netLatches (now net) + netReadings (now net)) ⌝ }
-    requires { ⌜ AtHand (now net) (now region) (now table) place (now words) ⌝ }
-    ensures { λ r. ⌜ r ≡ replyFault (now (net .entry)) (now (region .entry)) (now (table .entry)) place ⌝ }
+    requires { ⌜ AtHand (now net) (now region) kind (now table) place (now words) ⌝ }
+    ensures { λ r. ⌜ r ≡ replyFault (now (net .entry)) (now (region .entry)) kind (now (table .entry)) place ⌝ }
 {
     let latches = latches_of(net);
     let readings = readings_of(net);
@@ -185,10 +201,11 @@ fn reply_broken<'a>(
     if !holds_state(region, latches, state) {
         return false;
     }
-    let reply = stored_reply(table, latches, readings, state, place % power(readings));
+    let reading = place % power(readings);
+    let reply = stored_reply(kind, table, latches, readings, controls, state, reading);
     if power(controls) <= reply as usize {
         return true;
     }
-    let lane = reply_move(net, table, place) % 64;
+    let lane = reply_move(net, kind, table, place) % 64;
     !lane_keeps_region(net, words, lane, region, latches)
 }

@@ -3,3 +3,5 @@ pub mod Gapped
 pub mod Head
 pub mod Part
 pub mod Turns
+pub mod PackedBit
+pub mod Laid

@@ -1,4 +1,6 @@
 // Bytes put at a place of a lent buffer (01, "The numbers": a success writes its bytes, a refusal none).
+pub mod packed;
+
 ghost use Prim.Native.Nat.{_+_};
 ghost use lib.ListN.{length, getD};
 ghost use mathlib.Core.Path.{_≡_};

@@ -1,6 +1,8 @@
 pub mod Record
 pub mod RecordAt
 pub mod ReplyBytes
+pub mod PackedReplies
+pub mod ReplyTable
 pub mod Shape
 pub mod Tables
 pub mod Parts

@@ -1,6 +1,8 @@
 pub mod Record
 pub mod RegionBits
 pub mod ReplyBytes
+pub mod PackedReplies
+pub mod ReplyTable
 pub mod AttackTable
 pub mod Tables
 pub mod RecordAt

@@ -7,7 +7,7 @@ use lib.Dec.{leb}
 use lib.ListN.{length, take, drop}
 use Rattle.bits.specs.Digits.{digits, sum}
 
--- the four kinds
+-- the five kinds
 abbrev pub circuitKind : ℕ
 circuitKind = 1
 
@@ -19,6 +19,9 @@ replyKind = 3
 
 abbrev pub attackKind : ℕ
 attackKind = 4
+
+abbrev pub packedKind : ℕ
+packedKind = 5
 
 -- the bytes before the contents
 abbrev pub headLength : ℕ

@@ -8,8 +8,8 @@ unfoldable pub replyLength : ℕ → ℕ → ℕ
 replyLength L U = 2 ^ (L + U)
 
 -- the stored reply; bits of state and reading above L and U aren't read; bytes that aren't there count as 0
-unfoldable pub storedReply : List ℕ → (L U state reading : ℕ) → ℕ
-storedReply bytes L U s r = getD bytes (s % 2 ^ L * 2 ^ U + r % 2 ^ U) 0
+unfoldable pub byteReply : List ℕ → (L U state reading : ℕ) → ℕ
+byteReply bytes L U s r = getD bytes (s % 2 ^ L * 2 ^ U + r % 2 ^ U) 0
 
 -- the bytes that store replies
 unfoldable pub replyBytes : (ℕ → ℕ → ℕ) → ℕ → ℕ → List ℕ

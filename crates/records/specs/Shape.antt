@@ -1,5 +1,5 @@
--- The code's answer for the shape of a certificate (01, "The certificate"): where the contents of its records start and end. The first
--- record's contents start behind its head. Assumes nothing.
+-- The code's answer for the shape of a certificate (01, "The certificate"): where the contents of its records start and end, and the
+-- kind of the reply record. The first record's contents start behind its head. Assumes nothing.
 use Prim.Native.Nat.{_+_}
 use mathlib.Core.Option.{Option, none, some}
 use lib.ListN.{length}
@@ -13,7 +13,7 @@ shapeOf none = Other
 shapeOf (some (replies circuit region kind table)) =
     let circuitEnd = headLength + length circuit in
     let regionEnd = circuitEnd + headLength + length region in
-    Replies circuitEnd (circuitEnd + headLength) regionEnd (regionEnd + headLength) (regionEnd + headLength + length table)
+    Replies circuitEnd (circuitEnd + headLength) regionEnd (regionEnd + headLength) (regionEnd + headLength + length table) kind
 shapeOf (some (attacks circuit table)) =
     let circuitEnd = headLength + length circuit in
     Attacks circuitEnd (circuitEnd + headLength) (circuitEnd + headLength + length table)

@@ -1,17 +1,17 @@
--- The two shapes of a certificate (01, "The certificate"): kinds 1, 2, 3 or kinds 1, 4, back to back, and nothing follows. The kinds of
--- reply record are an argument. Assumes nothing.
+-- The two shapes of a certificate (01, "The certificate"; 02, T-07): kinds 1, 2 and a reply record of kind 3 or 5, or kinds 1, 4, back to
+-- back, and nothing follows. The kinds of reply record that are accepted are an argument. Assumes nothing.
 use Prim.Native.Nat.{ℕ}
-use mathlib.Core.Bool.{cond, _&&_}
+use mathlib.Core.Bool.{Bool, true, false, cond, _&&_}
 use mathlib.Core.List.{List, [], _∷_}
 use mathlib.Core.Option.{Option, none, some}
 use lib.Dec.{eqb}
 use lib.ListN.{length}
 use Rattle.below.specs.Among.{member}
-use Rattle.records.specs.Record.{Split, whole, cut, split, circuitKind, regionKind, replyKind, attackKind}
+use Rattle.records.specs.Record.{Split, whole, cut, split, circuitKind, regionKind, replyKind, attackKind, packedKind}
 
--- the kinds of reply record that are accepted
+-- the kinds of reply record that the check takes
 abbrev pub acceptedKinds : List ℕ
-acceptedKinds = replyKind ∷ []
+acceptedKinds = replyKind ∷ packedKind ∷ []
 
 pub data Tables : Type 0 where
   replies : (circuit region : List ℕ) (kind : ℕ) (table : List ℕ) → Tables

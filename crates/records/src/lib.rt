@@ -11,7 +11,8 @@ pub enum RecordAt {
     Cut,
 }
 
-// The shape of a certificate: where the contents of its records start and end. The circuit starts behind the first head.
+// The shape of a certificate: where the contents of its records start and end, and the kind of the reply record. The circuit starts behind
+// the first head.
 pub enum Shape {
     Replies {
         circuit_end: usize,
@@ -19,6 +20,7 @@ pub enum Shape {
         region_end: usize,
         table: usize,
         table_end: usize,
+        kind: u16,
     },
     Attacks {
         circuit_end: usize,
@@ -37,4 +39,11 @@ pub const REPLIES: u16 = 3;
 
 pub const ATTACKS: u16 = 4;
 
+pub const PACKED: u16 = 5;
+
 pub const HEAD: usize = 6;
+
+// The most latches and uncontrollable inputs that a packed table is read for: a circuit's limits.
+pub const MOST_LATCHES: usize = 10;
+
+pub const MOST_READINGS: usize = 5;

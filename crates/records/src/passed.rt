@@ -1,13 +1,17 @@
-// Reading a passed certificate (01, "The certificate"): the lent bytes, the starts of its tables and the counts L and U, as a pass of the
-// check answers them. A start beyond the end counts as one with nothing behind it.
+// Reading a passed certificate (01, "The certificate"): the lent bytes, the starts of its tables and the counts L, U and C, as a pass of
+// the check answers them. A start beyond the end counts as one with nothing behind it.
+use crate::stored;
+use crate::stored::byte_reply;
 use crate::stored::holds_state;
 use crate::stored::stored_attack;
 use crate::stored::stored_rank;
-use crate::stored::stored_reply;
 ghost use mathlib.Core.Path.{_≡_};
+ghost use Prim.Native.Nat.{min};
 ghost use lib.ListN.{drop};
 ghost use Rattle.records.specs.RegionBits.{holdsState};
+ghost use Rattle.records.specs.PackedReplies.{packedReply};
 ghost use Rattle.records.specs.Passed.{replyIn};
+ghost use Rattle.records.specs.ReplyBytes.{byteReply};
 ghost use Rattle.records.specs.AttackTable.{storedRank, storedAttack};
 
 // Whether the stored region holds a state.
@@ -17,7 +21,7 @@ pub fn region_bit(certificate: &[u8], region: usize, latches: usize, state: usiz
     holds_state(tail(certificate, region), latches, state)
 }
 
-// The reply to a reading at a state: the stored one inside the stored region, 0 outside.
+// The reply to a reading at a state, by a byte table: the stored one inside the stored region, 0 outside.
 pub fn reply(
     certificate: &[u8],
     region: usize,
@@ -27,15 +31,43 @@ pub fn reply(
     state: usize,
     reading: usize,
 ) -> u8
-    ensures { λ r. ⌜ r ≡ replyIn (drop region (now (certificate .entry))) (drop replies (now (certificate .entry))) latches readings state reading ⌝ }
+    ensures { λ r. ⌜ r ≡ replyIn (drop region (now (certificate .entry))) latches
+        (byteReply (drop replies (now (certificate .entry))) latches readings) state reading ⌝ }
 {
     if !region_bit(certificate, region, latches, state) {
         return 0;
     }
-    stored_reply(
+    byte_reply(
         tail(certificate, replies),
         latches,
         readings,
+        state,
+        reading,
+    )
+}
+
+// The reply to a reading at a state, by a packed table: the stored one inside the stored region, 0 outside.
+pub fn packed_reply(
+    certificate: &[u8],
+    region: usize,
+    replies: usize,
+    latches: usize,
+    readings: usize,
+    controls: usize,
+    state: usize,
+    reading: usize,
+) -> u8
+    ensures { λ r. ⌜ r ≡ replyIn (drop region (now (certificate .entry))) latches
+        (packedReply (drop replies (now (certificate .entry))) (min latches 10) (min readings 5) (min controls 8)) state reading ⌝ }
+{
+    if !region_bit(certificate, region, latches, state) {
+        return 0;
+    }
+    stored::packed_reply(
+        tail(certificate, replies),
+        latches,
+        readings,
+        controls,
         state,
         reading,
     )

@@ -1,6 +1,8 @@
-// The shape of a certificate (01, "The certificate"): kinds 1, 2, 3 or kinds 1, 4, back to back, and nothing follows.
+// The shape of a certificate (01, "The certificate"; 02, T-07): kinds 1, 2 and a reply record of kind 3 or 5, or kinds 1, 4, back to back,
+// and nothing follows.
 use crate::ATTACKS;
 use crate::CIRCUIT;
+use crate::PACKED;
 use crate::REGION;
 use crate::REPLIES;
 use crate::RecordAt;
@@ -8,6 +10,7 @@ use crate::Shape;
 use crate::record::record_at;
 ghost use mathlib.Core.Path.{_≡_};
 ghost use Prim.Native.Nat.{_+_};
+ghost use Rattle.below.specs.Among.{member};
 ghost use Rattle.records.specs.Record.{headLength};
 ghost use Rattle.records.specs.Shape.{shapeOf};
 ghost use Rattle.records.specs.Tables.{acceptedKinds, tablesOf};
@@ -66,7 +69,7 @@ fn behind_region(certificate: &[u8], circuit: usize, region: usize, behind: usiz
     let RecordAt::Whole { kind, start, end } = record_at(certificate, behind) else {
         return Shape::Other;
     };
-    if kind != REPLIES {
+    if !is_accepted(kind) {
         return Shape::Other;
     }
     if certificate.len() != end {
@@ -78,5 +81,16 @@ fn behind_region(certificate: &[u8], circuit: usize, region: usize, behind: usiz
         region_end: behind,
         table: start,
         table_end: end,
+        kind,
     }
+}
+
+// Whether a kind of reply record is taken.
+fn is_accepted(kind: u16) -> bool
+    ensures { λ r. ⌜ r ≡ member kind acceptedKinds ⌝ }
+{
+    if kind == REPLIES {
+        return true;
+    }
+    kind == PACKED
 }

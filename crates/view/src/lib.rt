@@ -1,11 +1,15 @@
 // A view of a passed certificate (01, "The certificate"): the lent certificate bytes with the starts of its region and replies, as a pass
-// of the check answers them. L and U can't be had from these; its readers take them as numbers, which the pass answers too.
+// of the check answers them. L, U and C can't be had from these; its readers take them as numbers, which the pass answers too.
+use records::passed::packed_reply;
 use records::passed::region_bit;
 use records::passed::reply;
+ghost use Prim.Native.Nat.{min};
 ghost use mathlib.Core.Path.{_≡_};
 ghost use lib.ListN.{drop};
 ghost use Rattle.records.specs.RegionBits.{holdsState};
+ghost use Rattle.records.specs.PackedReplies.{packedReply};
 ghost use Rattle.records.specs.Passed.{replyIn};
+ghost use Rattle.records.specs.ReplyBytes.{byteReply};
 ghost use Rattle.view.specs.View.{viewOf};
 
 pub struct View<'a> {
@@ -32,16 +36,42 @@ impl<'a> View<'a> {
         region_bit(self.certificate, self.region, latches, state)
     }
 
-    // The reply to a reading at a state: the stored one inside the stored region, 0 outside.
+    // The reply to a reading at a state, by a byte table: the stored one inside the stored region, 0 outside.
     pub fn reply(self, latches: usize, readings: usize, state: usize, reading: usize) -> u8
-        ensures { λ r. ⌜ r ≡ replyIn (drop (self .entry .region) (now (self .entry .certificate))) (drop (self .entry .replies) (now (self .entry .certificate))) latches readings state reading ⌝ }
+        ensures { λ r. ⌜ r ≡ replyIn (drop (self .entry .region) (now (self .entry .certificate))) latches
+            (byteReply (drop (self .entry .replies) (now (self .entry .certificate))) latches readings) state reading ⌝ }
     {
         reply(
+            self.certificate,
+            self.region,
+            self.replies, // one byte each
+            latches,
+            readings,
+            state,
+            reading,
+        )
+    }
+
+    // The reply to a reading at a state, by a packed table: the stored one inside the stored region, 0 outside.
+    pub fn packed_reply(
+        self,
+        latches: usize,
+        readings: usize,
+        controls: usize,
+        state: usize,
+        reading: usize,
+    ) -> u8
+        ensures { λ r. ⌜ r ≡ replyIn (drop (self .entry .region) (now (self .entry .certificate))) latches
+            (packedReply (drop (self .entry .replies) (now (self .entry .certificate))) (min latches 10) (min readings 5) (min controls 8))
+            state reading ⌝ }
+    {
+        packed_reply(
             self.certificate,
             self.region,
             self.replies,
             latches,
             readings,
+            controls,
             state,
             reading,
         )

@@ -1,5 +1,6 @@
 pub mod Turns
 pub mod Tables
+pub mod Cells
 pub mod Length
 pub mod Certified
 pub mod Bounds

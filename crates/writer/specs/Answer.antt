@@ -22,15 +22,15 @@ certifiedOutcome (Realizable n) = taken (record { realizable = true; count = n }
 certifiedOutcome (Unrealizable n) = taken (record { realizable = false; count = n })
 certifiedOutcome (Refused r) = refused (r .number) (r .place)
 
--- the certificate of a file that says this circuit, given room for so many bytes; and what is told of it
-unfoldable pub certificateFor : (file : List ℕ) → Outcome Circuit → (room : ℕ) → Outcome (List ℕ)
-certificateFor file circuit room = circuit >>= λ c. fitted (certificateOf file c) room
+-- the certificate of a file that says this circuit, with replies of a kind, given room for so many bytes; and what is told of it
+unfoldable pub certificateFor : (kind : ℕ) → (file : List ℕ) → Outcome Circuit → (room : ℕ) → Outcome (List ℕ)
+certificateFor kind file circuit room = circuit >>= λ c. fitted (certificateOf kind file c) room
 
-unfoldable pub verdictFor : (file : List ℕ) → Outcome Circuit → (room : ℕ) → Outcome Verdict
-verdictFor file circuit room =
-    circuit >>= λ c. fitted (certificateOf file c) room >>= λ bytes. taken (record { realizable = isRealizable c; count = length bytes })
+unfoldable pub verdictFor : (kind : ℕ) → (file : List ℕ) → Outcome Circuit → (room : ℕ) → Outcome Verdict
+verdictFor kind file circuit room =
+    circuit >>= λ c. fitted (certificateOf kind file c) room >>= λ bytes. taken (record { realizable = isRealizable c; count = length bytes })
 
 -- an answer and a buffer, before and after, say what was written for a file that says this circuit
-pub record CertifiedAs (file : List ℕ) (circuit : Outcome Circuit) (before after : List ℕ) (r : Certified) : Type 0 where
-  pub answer : certifiedOutcome r ≡ verdictFor file circuit (length before)
-  pub bytes : after ≡ bufferAfter (certificateFor file circuit (length before)) before
+pub record CertifiedAs (kind : ℕ) (file : List ℕ) (circuit : Outcome Circuit) (before after : List ℕ) (r : Certified) : Type 0 where
+  pub answer : certifiedOutcome r ≡ verdictFor kind file circuit (length before)
+  pub bytes : after ≡ bufferAfter (certificateFor kind file circuit (length before)) before

@@ -1,10 +1,13 @@
 // The tables of a certificate (01, "The certificate"). Every writer takes the place where its bytes go and answers the place behind
 // them. The bounds on places only keep their sums from wrapping.
 use bits::bytes::byte_at;
+use put::packed::pack;
 use put::put_bytes;
-ghost use Prim.Native.Nat.{_+_, _^_, _<_, _≤_};
-ghost use lib.ListN.{getD};
+use records::PACKED;
+ghost use Prim.Native.Nat.{_+_, _*_, _^_, _<_, _≤_};
+ghost use lib.ListN.{length, getD};
 ghost use mathlib.Core.List.{[], _∷_, _++_};
+ghost use mathlib.Core.Path.{_≡_};
 ghost use Rattle.bits.specs.Digits.{digits};
 ghost use Rattle.bits.specs.InTurn.{inTurn};
 ghost use Rattle.bits.specs.Wrote.{Wrote};
@@ -12,6 +15,7 @@ ghost use Rattle.circuit.specs.Limits.{base};
 ghost use Rattle.keeping.specs.RankList.{ranksIn};
 ghost use Rattle.solver.specs.Over.{rankZero};
 ghost use Rattle.bits.specs.BitBytes.{bitBytes};
+ghost use Rattle.writer.specs.contracts.Cells.{cellsOf, cellsLength};
 ghost use Rattle.writer.specs.contracts.Rows.{attackRow};
 
 // The region, a byte for eight states.
@@ -23,6 +27,40 @@ pub(crate) fn put_region(out: &mut [u8], at: usize, ranks: &[u16], states: usize
     let region = region::region_of(ranks, states);
     let n = (states + 7) / 8;
     at + put_bytes(out, at, &region[..n])
+}
+
+// How many bytes n replies take in a reply record of a kind.
+pub(crate) fn cells_length(kind: u16, n: usize, controls: usize) -> usize
+    requires { ⌜ n ≤ 2 ^ base .latches * 2 ^ base .uncontrollable ⌝ }
+    requires { ⌜ controls ≤ base .controllable ⌝ }
+    ensures { λ r. ⌜ r ≡ cellsLength kind n controls ⌝ }
+    ensures { λ r. ⌜ r ≤ n ⌝ }
+{
+    if kind == PACKED {
+        return (controls * n + 7) / 8;
+    }
+    n
+}
+
+// The first n replies, as a reply record of a kind has them.
+pub(crate) fn put_cells(
+    out: &mut [u8],
+    at: usize,
+    kind: u16,
+    replies: &[u8],
+    n: usize,
+    controls: usize,
+) -> usize
+    requires { ⌜ at ≤ 2 ^ 63 ⌝ }
+    requires { ⌜ n ≤ length (now replies) ⌝ }
+    requires { ⌜ controls ≤ base .controllable ⌝ }
+    ensures { λ r. ⌜ Wrote (cellsOf kind (now (replies .entry)) n controls) at (now (out .entry)) (now (out .exit)) r ⌝ }
+{
+    if kind == PACKED {
+        at + pack(replies, controls, n, out, at)
+    } else {
+        at + put_bytes(out, at, &replies[..n])
+    }
 }
 
 // Ranks and attacks, three bytes for a state.

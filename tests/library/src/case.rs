@@ -8,6 +8,7 @@ pub enum Function {
     Read,
     Step,
     Certify,
+    CertifyPacked,
     Check,
     Print,
     CircuitRecord,
@@ -29,7 +30,7 @@ pub struct Case {
     pub file: Vec<u8>,
     pub certificate: Vec<u8>,
     pub room: usize,
-    pub numbers: [u64; 6],
+    pub numbers: [u64; 8],
 }
 
 #[derive(Debug, Default, PartialEq, Eq)]

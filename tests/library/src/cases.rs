@@ -2,8 +2,10 @@
 //! whole, damaged and cut, with buffers and numbers of any size.
 
 use crate::case::{Case, Function};
+use crate::second_says::writes;
 use second::certificate::checker::{check, Tables};
-use second::certificate::writer::certificate;
+use second::certificate::records::{ATTACKS, PACKED, REPLIES};
+use second::certificate::view::Form;
 use second::damage::faults::change_bytes;
 use second::damage::random::Random;
 use second::damage::{file, pair};
@@ -47,10 +49,10 @@ impl Pool {
             },
             Function::Step => Case {
                 file: self.file(random, 5),
-                numbers: [0; 6].map(|_: u64| random.number()),
+                numbers: [0; 8].map(|_: u64| random.number()),
                 ..Case::default()
             },
-            Function::Certify => self.certify(random),
+            Function::Certify | Function::CertifyPacked => self.certify(function, random),
             Function::Print => self.print(random),
             Function::Check => self.check(random),
             Function::CircuitRecord => {
@@ -70,7 +72,7 @@ impl Pool {
         damaged(file, damage, random)
     }
 
-    fn certify(&self, random: &mut Random) -> Case {
+    fn certify(&self, function: Function, random: &mut Random) -> Case {
         let file = loop {
             let file = random.pick(&self.small);
             let file = damaged(file, 15, random);
@@ -78,7 +80,9 @@ impl Pool {
                 break file;
             }
         };
-        let written = read(&file).map_or(0, |circuit| certificate(&file, &solve(&circuit)).len());
+        let written = read(&file).map_or(0, |circuit| {
+            writes(function)(&file, &solve(&circuit)).len()
+        });
         Case {
             file,
             room: room(written, random),
@@ -116,15 +120,20 @@ impl Pool {
     /// Starts and counts as the check answers them, or any.
     fn look_up(&self, random: &mut Random) -> Case {
         let (file, certificate) = random.pick(&self.pairs);
-        let mut numbers = [0; 6].map(|_: u64| any_number(certificate.len(), random));
+        let mut numbers = [0; 8].map(|_: u64| any_number(certificate.len(), random));
+        numbers[7] = u64::from(*random.pick(&[REPLIES, ATTACKS, PACKED, PACKED]));
         if random.chance(70) {
             if let Ok(passed) = check(file, certificate) {
-                let (region, table) = match passed.tables {
-                    Tables::Replies(view) => (view.region, view.replies),
-                    Tables::Attacks(view) => (view.table, view.table),
+                let (region, table, form) = match passed.tables {
+                    Tables::Replies(view) => (view.region, view.replies, view.form),
+                    Tables::Attacks(view) => (view.table, view.table, Form::Bytes),
                 };
                 let known = [region, table, passed.latches, passed.uncontrollable];
                 numbers[..4].copy_from_slice(&known.map(|number| number as u64));
+                (numbers[6], numbers[7]) = match form {
+                    Form::Bytes => (0, REPLIES.into()),
+                    Form::Packed(width) => (width as u64, PACKED.into()),
+                };
             }
         }
         Case {

@@ -18,10 +18,11 @@ use std::sync::mpsc::{sync_channel, Receiver, SyncSender};
 use std::thread;
 
 /// How many cases of each function; a million in all.
-const CASES: [(Function, usize); 10] = [
+const CASES: [(Function, usize); 11] = [
     (Function::Read, 320_000),
     (Function::Step, 250_000),
-    (Function::Certify, 20_000),
+    (Function::Certify, 10_000),
+    (Function::CertifyPacked, 10_000),
     (Function::Check, 80_000),
     (Function::Print, 65_000),
     (Function::CircuitRecord, 60_000),

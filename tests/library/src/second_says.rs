@@ -2,11 +2,11 @@
 
 use crate::case::{blank, Answer, Case, Function};
 use second::certificate::checker::{check, Tables};
-use second::certificate::records::{split, ATTACKS, CIRCUIT, REPLIES};
-use second::certificate::view::{Attacks, Replies};
-use second::certificate::writer::certificate;
+use second::certificate::records::{split, ATTACKS, CIRCUIT, PACKED, REPLIES};
+use second::certificate::view::{Attacks, Form, Replies};
+use second::certificate::writer::{certificate, packed_certificate};
 use second::circuit::Circuit;
-use second::game::solve;
+use second::game::{solve, Game};
 use second::print::print;
 use second::reader::read;
 use second::refusal::{refusal, Refusal};
@@ -16,7 +16,7 @@ pub fn answer(function: Function, case: &Case) -> Answer {
     let answered = match function {
         Function::Read => read(&case.file).map(|circuit| counts(&circuit)),
         Function::Step => read(&case.file).map(|circuit| stepped(&circuit, case)),
-        Function::Certify => certified(case),
+        Function::Certify | Function::CertifyPacked => certified(function, case),
         Function::Check => checked(case),
         Function::Print => printed(case),
         Function::CircuitRecord => Ok(Answer::of(&circuit_record(&case.certificate))),
@@ -54,9 +54,18 @@ fn front(bytes: &[u8], room: usize) -> Result<Vec<u8>, Refusal> {
     Ok(buffer)
 }
 
-fn certified(case: &Case) -> Result<Answer, Refusal> {
+/// Which certificate a function writes.
+pub fn writes(function: Function) -> fn(&[u8], &Game) -> Vec<u8> {
+    if function == Function::CertifyPacked {
+        packed_certificate
+    } else {
+        certificate
+    }
+}
+
+fn certified(function: Function, case: &Case) -> Result<Answer, Refusal> {
     let game = solve(&read(&case.file)?);
-    let bytes = certificate(&case.file, &game);
+    let bytes = writes(function)(&case.file, &game);
     let buffer = front(&bytes, case.room)?;
     Ok(Answer {
         buffer,
@@ -75,13 +84,20 @@ fn printed(case: &Case) -> Result<Answer, Refusal> {
 
 fn checked(case: &Case) -> Result<Answer, Refusal> {
     let passed = check(&case.file, &case.certificate)?;
-    let (kind, region, table) = match passed.tables {
-        Tables::Replies(view) => (REPLIES, view.region, view.replies),
-        Tables::Attacks(view) => (ATTACKS, 0, view.table),
+    let controls = read(&case.file)?.controllable_count();
+    let (kind, region, table, c) = match passed.tables {
+        Tables::Replies(view) => {
+            let kind = match view.form {
+                Form::Bytes => REPLIES,
+                Form::Packed(_) => PACKED,
+            };
+            (kind, view.region, view.replies, controls)
+        }
+        Tables::Attacks(view) => (ATTACKS, 0, view.table, 0),
     };
-    let [region, table, l, u] =
-        [region, table, passed.latches, passed.uncontrollable].map(|n| n as u64);
-    Ok(Answer::of(&[0, 0, kind.into(), region, table, l, u]))
+    let [region, table, l, u, c] =
+        [region, table, passed.latches, passed.uncontrollable, c].map(|n| n as u64);
+    Ok(Answer::of(&[0, 0, kind.into(), region, table, l, u, c]))
 }
 
 /// The first record alone, where it is whole and of kind 1.
@@ -100,16 +116,26 @@ fn circuit_record(certificate: &[u8]) -> [u64; 2] {
 }
 
 fn looked_up(function: Function, case: &Case) -> u64 {
-    let [region, table, l, u, state, reading] = case.numbers.map(|number| number as usize);
+    let [region, table, l, u, state, reading, c, kind] =
+        case.numbers.map(|number| number as usize);
     let bytes = &case.certificate;
     let replies = Replies {
         bytes,
         region,
         replies: table,
+        form: Form::Bytes,
     };
     let attacks = Attacks { bytes, table };
     match function {
         Function::RegionBit => replies.region_bit(l, state).into(),
+        // In a packed table counts above the limits count as those.
+        Function::Reply if kind == PACKED.into() && replies.region_bit(l, state) => {
+            let packed = Replies {
+                form: Form::Packed(c.min(8)),
+                ..replies
+            };
+            packed.stored(l.min(10), u.min(5), state, reading).into()
+        }
         Function::Reply => replies.reply(l, u, state, reading).into(),
         Function::Rank => attacks.rank(l, state).into(),
         // The view of the second program gives 0 beside a rank of 0, so the byte behind the rank is looked at as a rank.

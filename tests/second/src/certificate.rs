@@ -2,6 +2,7 @@
 //! the readers of a certificate that passed.
 
 pub mod checker;
+pub mod packing;
 pub mod records;
 pub mod view;
 pub mod writer;

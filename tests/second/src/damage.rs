@@ -15,7 +15,7 @@ pub mod random;
 pub mod styles;
 pub mod wanted;
 
-use crate::certificate::writer::certificate;
+use crate::certificate::writer::{certificate, packed_certificate};
 use crate::game::solve;
 use crate::reader::read;
 use random::Random;
@@ -95,11 +95,16 @@ pub fn pair(seed: u64, index: usize) -> (Vec<u8>, Vec<u8>) {
         Err(_) => return (file, Vec::new()),
     };
     let game = solve(&circuit);
-    let ours = certificate(&file, &game);
+    let packed = random.chance(40);
+    let ours = if packed {
+        packed_certificate(&file, &game)
+    } else {
+        certificate(&file, &game)
+    };
     match index % 20 * 7 % 20 {
         0 => (file, ours),
         1..=6 => {
-            let other = others::certificate(&file, &circuit, &game, &mut random);
+            let other = others::certificate(&file, &game, packed, &circuit, &mut random);
             (file, other)
         }
         7 => {
@@ -117,7 +122,7 @@ pub fn pair(seed: u64, index: usize) -> (Vec<u8>, Vec<u8>) {
             let base = if random.chance(50) {
                 ours
             } else {
-                others::certificate(&file, &circuit, &game, &mut random)
+                others::certificate(&file, &game, packed, &circuit, &mut random)
             };
             let bytes = broken::certificate(&circuit, &base, number, &mut random);
             (file, bytes)

@@ -2,7 +2,7 @@
 //! second program.
 
 use second::certificate::checker::check;
-use second::certificate::writer::certificate;
+use second::certificate::writer::{certificate, packed_certificate};
 use second::circuit::Circuit;
 use second::count::Count;
 use second::game::{solve, solve_plainly, Game};
@@ -15,7 +15,7 @@ use std::path::{Path, PathBuf};
 use std::process::ExitCode;
 
 const USAGE: &str = "usage: second listing FILE.. | read FILE.. | print FILE.. | \
-verify FILE CERT .. | certify FILE OUT | plain FILE OUT | generate SEED COUNT DIR | \
+verify FILE CERT .. | certify FILE OUT [packed] | plain FILE OUT | generate SEED COUNT DIR | \
 generate-full SEED COUNT DIR | generate-certificates SEED COUNT DIR | count DIR | count-certificates DIR";
 
 /// What went wrong, as one line for standard error.
@@ -42,8 +42,11 @@ fn run(arguments: &[PathBuf]) -> Result<(), Trouble> {
         ("verify", files @ [_, _, ..]) if files.len() % 2 == 0 => {
             each(files, 2, |b| passed(&b[0], &b[1]))
         }
-        ("certify", [file, out]) => certify(file, out, solve),
-        ("plain", [file, out]) => certify(file, out, solve_plainly),
+        ("certify", [file, out]) => certify(file, out, solve, certificate),
+        ("certify", [file, out, form]) if form.as_os_str() == "packed" => {
+            certify(file, out, solve, packed_certificate)
+        }
+        ("plain", [file, out]) => certify(file, out, solve_plainly, certificate),
         ("generate", [seed, count, directory]) => {
             generate(number(seed)?, number(count)?, directory, damage::file)
         }
@@ -103,7 +106,12 @@ fn refused(refusal: Refusal) -> String {
 }
 
 /// Writes the certificate; a refused file leaves OUT unwritten.
-fn certify(file: &Path, out: &Path, solve: fn(&Circuit) -> Game) -> Result<(), Trouble> {
+fn certify(
+    file: &Path,
+    out: &Path,
+    solve: fn(&Circuit) -> Game,
+    certificate: fn(&[u8], &Game) -> Vec<u8>,
+) -> Result<(), Trouble> {
     let file = bytes_of(file)?;
     match read(&file) {
         Ok(circuit) => {

@@ -11,10 +11,12 @@ use Rattle.capi.proofs.krastopi_circuit_record.Tie as tie
 -- the first record, where it is whole
 found :
     (c : tie.After-kind)
-    → Found (c .before .before .before .before .args .certificate .now) 0 (c .kind .given .0 .0) (c .kind .given .0 .1 .0) (c .kind .given .0 .1 .1 .0)
+    → Found (c .before .before .before .before .args .certificate .now) 0 (c .kind .given .0 .0) (c .kind .given .0 .1 .0)
+    (c .kind .given .0 .1 .1 .0)
 found c =
-    found-record (c .before .before .before .before .args .certificate .now) 0 (c .kind .given .0 .0) (c .kind .given .0 .1 .0)
-    (c .kind .given .0 .1 .1 .0) (sym (c .kind .given .1) ∙ c .before .before .record-at .ensures)
+    let bytes = c .before .before .before .before .args .certificate .now in
+    let k = c .kind .given in
+    found-record bytes 0 (k .0 .0) (k .0 .1 .0) (k .0 .1 .1 .0) (sym (k .1) ∙ c .before .before .record-at .ensures)
 
 record-at-requires : tie.Need-record-at-requires
 record-at-requires c κs = search needs
@@ -30,28 +32,25 @@ nothing-requires c κs = search needs
 
 returns : tie.Need-returns
 returns c =
-    c .nothing .ensures
-    ∙ sym
-    (ap circuitPart
-    (found-none (c .before .before .before .before .before .args .certificate .now) 0
-    (sym (c .before .enum-told .given .1) ∙ c .before .before .before .record-at .ensures)))
+    let bytes = c .before .before .before .before .before .args .certificate .now in
+    let none = found-none bytes 0 (sym (c .before .enum-told .given .1) ∙ c .before .before .before .record-at .ensures) in
+    c .nothing .ensures ∙ sym (ap circuitPart none)
 
 nothing-requires-2 : tie.Need-nothing-requires-2
 nothing-requires-2 c κs = search needs
 
 returns-2 : tie.Need-returns-2
 returns-2 c =
-    c .nothing2 .ensures
-    ∙ part-other (c .before .before .before .before .before .before .before .args .certificate .now) _ _ _ (found (c .before .before .before))
-    (ne-eqb _ 1 (c .before .if1 .taken))
+    let bytes = c .before .before .before .before .before .before .before .args .certificate .now in
+    c .nothing2 .ensures ∙ part-other bytes _ _ _ (found (c .before .before .before)) (ne-eqb _ 1 (c .before .if1 .taken))
 
 sub-contents : tie.Need-sub-contents
 sub-contents c = found (c .before .before) .ordered
 
 returns-3 : tie.Need-returns-3
 returns-3 c =
-    part-found (c .before .before .before .before .before .before .args .certificate .now) _ _ _ (found (c .before .before))
-    (eq-eqb _ 1 (c .if1 .left))
+    let bytes = c .before .before .before .before .before .before .args .certificate .now in
+    part-found bytes _ _ _ (found (c .before .before)) (eq-eqb _ 1 (c .if1 .left))
 
 pub krastopi-circuit-record-spec : {M : Type 1} → statement M
 krastopi-circuit-record-spec =

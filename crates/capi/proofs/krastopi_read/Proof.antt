@@ -25,17 +25,15 @@ counts-requires c κs = search needs
 
 returns : tie.Need-returns
 returns c =
-    c .read-refused .ensures
-    ∙ sym
-    (ap readAnswer
-    (refused-means (c .before .before .before .before .before .before .args .file .now) (c .before .before .before .before .read .result)
-    (c .before .before .before .before .read .ensures) _ (c .before .before .answer .given .1)))
+    let f = c .before .before .before .before .before .before .args .file .now in
+    let r = c .before .before .before .before .read in
+    c .read-refused .ensures ∙ sym (ap readAnswer (refused-means f (r .result) (r .ensures) _ (c .before .before .answer .given .1)))
 
 returns-2 : tie.Need-returns-2
 returns-2 c =
     let f = c .before .before .before .before .before .args .file .now in
-    let read = c .before .before .before .read in
-    let m : Means f (read .result) = taken-means f (read .result) (read .ensures) (c .before .enum-told .given .1) in
+    let r = c .before .before .before .read in
+    let m : Means f (r .result) = taken-means f (r .result) (r .ensures) (c .before .enum-told .given .1) in
     c .counts .ensures ∙ ap (λ (x : Circuit). readAnswer (taken x)) (m .meant-is) ∙ sym (ap readAnswer (m .read))
 
 pub krastopi-read-spec : {M : Type 1} → statement M

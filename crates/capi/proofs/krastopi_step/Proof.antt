@@ -33,11 +33,10 @@ returns : tie.Need-returns
 unfolding fileStepped
 returns c =
     let a = c .before .before .before .before .before .before .args in
+    let r = c .before .before .before .before .read in
     c .step-refused .ensures
-    ∙ sym
-    (ap (λ (o : Outcome Circuit). stepAnswer (o >>= λ x. taken (step x (a .state) (a .reading) (a .control))))
-    (refused-means (a .file .now) (c .before .before .before .before .read .result) (c .before .before .before .before .read .ensures) _
-    (c .before .before .answer .given .1)))
+    ∙ sym (ap (λ (o : Outcome Circuit). stepAnswer (o >>= λ x. taken (step x (a .state) (a .reading) (a .control))))
+    (refused-means (a .file .now) (r .result) (r .ensures) _ (c .before .before .answer .given .1)))
 
 returns-2 : tie.Need-returns-2
 unfolding fileStepped

@@ -8,23 +8,27 @@ use mathlib.Core.Path.{_≡_, refl, sym, ap, _∙_}
 use lib.ListN.{length, take}
 use Rattle.checker.specs.Answer.{Starts, ofReplies, ofAttacks, answerOf}
 use Rattle.checker.proofs.laws.Numbered.{check-numbered}
+use Rattle.checker.proofs.laws.ReadPassed.{passed-kind}
 use Rattle.circuit.specs.Answer.{WrittenAs, writtenOutcome, countOf, bufferAfter}
 use Rattle.circuit.specs.Circuit.{Circuit, latchCount, uncontrollableCount, controllableCount}
 use Rattle.circuit.specs.Outcome.{Outcome, taken, refused, _>>=_}
+use Rattle.circuit.specs.declared.Written.{Written}
 use Rattle.circuit.specs.declared.Written.the-variants.{Bytes}
 use Rattle.file.specs.CircuitIn.{circuitIn}
 use Rattle.file.proofs.laws.Numbered.{file-numbered, writer-numbered}
 use Rattle.game.specs.CircuitGame.{isRealizable}
 use Rattle.printer.specs.FilePrinted.{filePrinted}
 use Rattle.printer.proofs.laws.ReadsBack.{print-reads-back, counted-reads, count-refused-exactly}
-use Rattle.records.specs.Record.{replyKind, attackKind}
+use Rattle.records.specs.Record.{replyKind, attackKind, packedKind}
 use Rattle.step.specs.Step.{step}
 use Rattle.text.specs.Printed.{printed}
 use Rattle.writer.specs.Answer.{Verdict, certificateFor, verdictFor}
 use Rattle.writer.specs.Certificate.{certificateOf}
+use Rattle.writer.proofs.laws.Passes.{Accepted}
 use Rattle.writer.proofs.laws.OwnCertificate.{Passing, told-passes, told-reads, verdict-refused-exactly}
 use Rattle.capi.specs.Plain.{readAnswer, stepAnswer, certifyAnswer, checkAnswer, printAnswer}
 use Rattle.capi.specs.Stepped.{fileStepped}
+use Rattle.capi.proofs.laws.Stored.{repliesTold}
 use Rattle.capi.specs.declared.CertifyAnswer.{CertifyAnswer}
 use Rattle.capi.specs.declared.CheckAnswer.{CheckAnswer}
 use Rattle.capi.specs.declared.PrintAnswer.{PrintAnswer}
@@ -73,86 +77,100 @@ module _ (file : List ℕ) (s r k : ℕ) (a : StepAnswer) (is : a ≡ stepAnswer
       by (taken c) e f = let q : a .number ≡ 0 = λ x. f x .number in absurd (omega (arith, q, more))
       by (refused n p) e f = e ∙ sym (λ x. refused (f x .number) (f x .place))
 
-module _ (file before : List ℕ) (a : CertifyAnswer) (is : a ≡ certifyAnswer (verdictFor file (circuitIn file) (length before))) where
-  pub zero-certified :
-      (after : List ℕ) → after ≡ bufferAfter (certificateFor file (circuitIn file) (length before)) before → a .number ≡ 0
-      → (c : Circuit) × (starts : Starts) × (circuitIn file ≡ taken c) × (a .realizable ≡ isRealizable c)
-      × (take (a .bytes) after ≡ certificateOf file c) × (answerOf file (take (a .bytes) after) ≡ taken starts)
-  unfolding certifyAnswer
-  zero-certified after written zero = by (verdictFor file (circuitIn file) (length before)) refl is
-    where
-      by :
-          (o : Outcome Verdict) → verdictFor file (circuitIn file) (length before) ≡ o → a ≡ certifyAnswer o
-          → (c : Circuit) × (starts : Starts) × (circuitIn file ≡ taken c) × (a .realizable ≡ isRealizable c)
-          × (take (a .bytes) after ≡ certificateOf file c) × (answerOf file (take (a .bytes) after) ≡ taken starts)
-      by (taken v) e f =
-          let (c, reads) = told-reads file (length before) v e in
-          let p : Passing file c after v = told-passes file c before after v reads e written in
-          let verdict : a .realizable ≡ v .realizable = λ x. f x .realizable in
-          let counted : a .bytes ≡ v .count = λ x. f x .bytes in (
-            c,
-            p .starts,
-            reads,
-            verdict ∙ p .right,
-            ap (λ (n : ℕ). take n after) counted ∙ p .stands,
-            ap (λ (n : ℕ). answerOf file (take n after)) counted ∙ p .passes,
-          )
-      by (refused n p) e f =
-          let q : a .number ≡ n = λ x. f x .number in
-          absurd
-          (omega
-          (arith, q, zero, writer-numbered file (certificateOf file) (length before) n p (verdict-refused-exactly file (length before) n p .0 e) .0))
+module _ (kind : ℕ) (accepted : Accepted kind) (file before : List ℕ) (a : CertifyAnswer) where
+  abbrev tells : Outcome Verdict
+  tells = verdictFor kind file (circuitIn file) (length before)
 
-  pub number-certified : 1 ≤ a .number → verdictFor file (circuitIn file) (length before) ≡ refused (a .number) (a .place)
-  unfolding certifyAnswer
-  number-certified more = by (verdictFor file (circuitIn file) (length before)) refl is
-    where
-      by :
-          (o : Outcome Verdict) → verdictFor file (circuitIn file) (length before) ≡ o → a ≡ certifyAnswer o
-          → verdictFor file (circuitIn file) (length before) ≡ refused (a .number) (a .place)
-      by (taken v) e f = let q : a .number ≡ 0 = λ x. f x .number in absurd (omega (arith, q, more))
-      by (refused n p) e f = e ∙ sym (λ x. refused (f x .number) (f x .place))
+  -- what is told of a certificate that was written
+  abbrev Stands : (after : List ℕ) → Type 0
+  Stands after =
+      (c : Circuit) × (starts : Starts) × (circuitIn file ≡ taken c) × (a .realizable ≡ isRealizable c)
+      × (take (a .bytes) after ≡ certificateOf kind file c) × (answerOf file (take (a .bytes) after) ≡ taken starts)
 
-module _ (file certificate : List ℕ) (a : CheckAnswer) (is : a ≡ checkAnswer (answerOf file certificate)) where
-  pub zero-replies : a .number ≡ 0 → a .kind ≡ replyKind → answerOf file certificate ≡ taken (ofReplies (a .region) (a .table) (a .latches) (a .readings))
-  unfolding checkAnswer
-  zero-replies zero kind = by (answerOf file certificate) refl is
-    where
-      by :
-          (o : Outcome Starts) → answerOf file certificate ≡ o → a ≡ checkAnswer o
-          → answerOf file certificate ≡ taken (ofReplies (a .region) (a .table) (a .latches) (a .readings))
-      by (taken (ofReplies region table L U)) e f = e ∙ sym (λ x. taken (ofReplies (f x .region) (f x .table) (f x .latches) (f x .readings)))
-      by (taken (ofAttacks table L U)) e f = let q : a .kind ≡ attackKind = λ x. f x .kind in absurd (omega (arith, q, kind))
-      by (refused n p) e f = let q : a .number ≡ n = λ x. f x .number in absurd (omega (arith, q, zero, check-numbered file certificate n p e .0))
+  module _ (is : a ≡ certifyAnswer tells) where
+    pub zero-certified :
+        (after : List ℕ) → after ≡ bufferAfter (certificateFor kind file (circuitIn file) (length before)) before → a .number ≡ 0 → Stands after
+    unfolding certifyAnswer
+    zero-certified after written zero = by tells refl is
+      where
+        by : (o : Outcome Verdict) → tells ≡ o → a ≡ certifyAnswer o → Stands after
+        by (taken v) e f =
+            let (c, reads) = told-reads kind file (length before) v e in
+            let p : Passing kind file c after v = told-passes kind accepted file c before after v reads e written in
+            let verdict : a .realizable ≡ v .realizable = λ x. f x .realizable in
+            let counted : a .bytes ≡ v .count = λ x. f x .bytes in
+            let stands = ap (λ (n : ℕ). take n after) counted ∙ p .stands in
+            (c, p .starts, reads, verdict ∙ p .right, stands, ap (λ (n : ℕ). answerOf file (take n after)) counted ∙ p .passes)
+        by (refused n p) e f =
+            let q : a .number ≡ n = λ x. f x .number in
+            let row = verdict-refused-exactly kind file (length before) n p .0 e in
+            absurd (omega (arith, q, zero, writer-numbered file (certificateOf kind file) (length before) n p row .0))
 
-  pub zero-attacks : a .number ≡ 0 → a .kind ≡ attackKind → answerOf file certificate ≡ taken (ofAttacks (a .table) (a .latches) (a .readings))
-  unfolding checkAnswer
-  zero-attacks zero kind = by (answerOf file certificate) refl is
-    where
-      by :
-          (o : Outcome Starts) → answerOf file certificate ≡ o → a ≡ checkAnswer o
-          → answerOf file certificate ≡ taken (ofAttacks (a .table) (a .latches) (a .readings))
-      by (taken (ofReplies region table L U)) e f = let q : a .kind ≡ replyKind = λ x. f x .kind in absurd (omega (arith, q, kind))
-      by (taken (ofAttacks table L U)) e f = e ∙ sym (λ x. taken (ofAttacks (f x .table) (f x .latches) (f x .readings)))
-      by (refused n p) e f = let q : a .number ≡ n = λ x. f x .number in absurd (omega (arith, q, zero, check-numbered file certificate n p e .0))
+    pub number-certified : 1 ≤ a .number → tells ≡ refused (a .number) (a .place)
+    unfolding certifyAnswer
+    number-certified more = by tells refl is
+      where
+        by : (o : Outcome Verdict) → tells ≡ o → a ≡ certifyAnswer o → tells ≡ refused (a .number) (a .place)
+        by (taken v) e f = let q : a .number ≡ 0 = λ x. f x .number in absurd (omega (arith, q, more))
+        by (refused n p) e f = e ∙ sym (λ x. refused (f x .number) (f x .place))
 
-  pub zero-kind : a .number ≡ 0 → (a .kind ≡ replyKind) ⊎ (a .kind ≡ attackKind)
-  unfolding checkAnswer
-  zero-kind zero = by (answerOf file certificate) refl is
-    where
-      by : (o : Outcome Starts) → answerOf file certificate ≡ o → a ≡ checkAnswer o → (a .kind ≡ replyKind) ⊎ (a .kind ≡ attackKind)
-      by (taken (ofReplies region table L U)) e f = inl (λ x. f x .kind)
-      by (taken (ofAttacks table L U)) e f = inr (λ x. f x .kind)
-      by (refused n p) e f = let q : a .number ≡ n = λ x. f x .number in absurd (omega (arith, q, zero, check-numbered file certificate n p e .0))
+module _ (file certificate : List ℕ) (a : CheckAnswer) where
+  -- the starts that the answer tells
+  abbrev attacksTold : Starts
+  attacksTold = ofAttacks (a .table) (a .latches) (a .readings)
 
-  pub number-checked : 1 ≤ a .number → answerOf file certificate ≡ refused (a .number) (a .place)
-  unfolding checkAnswer
-  number-checked more = by (answerOf file certificate) refl is
-    where
-      by : (o : Outcome Starts) → answerOf file certificate ≡ o → a ≡ checkAnswer o → answerOf file certificate ≡ refused (a .number) (a .place)
-      by (taken (ofReplies region table L U)) e f = let q : a .number ≡ 0 = λ x. f x .number in absurd (omega (arith, q, more))
-      by (taken (ofAttacks table L U)) e f = let q : a .number ≡ 0 = λ x. f x .number in absurd (omega (arith, q, more))
-      by (refused n p) e f = e ∙ sym (λ x. refused (f x .number) (f x .place))
+  abbrev Either : Type 0
+  Either = (a .kind ≡ replyKind) ⊎ ((a .kind ≡ packedKind) ⊎ (a .kind ≡ attackKind))
+
+  not-zero : (n p : ℕ) → answerOf file certificate ≡ refused n p → a .number ≡ n → a .number ≡ 0 → ⊥
+  not-zero n p e q zero = absurd (omega (arith, q, zero, check-numbered file certificate n p e .0))
+
+  other : (kind : ℕ) → kind ≡ attackKind → (kind ≡ replyKind) ⊎ (kind ≡ packedKind) → ⊥
+  other kind e (inl f) = absurd (omega (arith, e, f))
+  other kind e (inr f) = absurd (omega (arith, e, f))
+
+  module _ (is : a ≡ checkAnswer (answerOf file certificate)) where
+    pub zero-replies : a .number ≡ 0 → (a .kind ≡ attackKind → ⊥) → answerOf file certificate ≡ taken (repliesTold a)
+    unfolding checkAnswer
+    zero-replies zero kind = by (answerOf file certificate) refl is
+      where
+        by : (o : Outcome Starts) → answerOf file certificate ≡ o → a ≡ checkAnswer o → answerOf file certificate ≡ taken (repliesTold a)
+        by (taken (ofReplies region table sort L U C)) e f =
+            e ∙ sym (λ x. taken (ofReplies (f x .region) (f x .table) (f x .kind) (f x .latches) (f x .readings) (f x .controls)))
+        by (taken (ofAttacks table L U)) e f = absurd (kind (λ x. f x .kind))
+        by (refused n p) e f = absurd (not-zero n p e (λ x. f x .number) zero)
+
+    pub zero-attacks : a .number ≡ 0 → a .kind ≡ attackKind → answerOf file certificate ≡ taken attacksTold
+    unfolding checkAnswer
+    zero-attacks zero kind = by (answerOf file certificate) refl is
+      where
+        by : (o : Outcome Starts) → answerOf file certificate ≡ o → a ≡ checkAnswer o → answerOf file certificate ≡ taken attacksTold
+        by (taken (ofReplies region table sort L U C)) e f =
+            let q : a .kind ≡ sort = λ x. f x .kind in absurd (other sort (sym q ∙ kind) (passed-kind file certificate region table sort L U C e))
+        by (taken (ofAttacks table L U)) e f = e ∙ sym (λ x. taken (ofAttacks (f x .table) (f x .latches) (f x .readings)))
+        by (refused n p) e f = absurd (not-zero n p e (λ x. f x .number) zero)
+
+    pub zero-kind : a .number ≡ 0 → Either
+    unfolding checkAnswer
+    zero-kind zero = by (answerOf file certificate) refl is
+      where
+        told : (sort : ℕ) → a .kind ≡ sort → (sort ≡ replyKind) ⊎ (sort ≡ packedKind) → Either
+        told sort q (inl e) = inl (q ∙ e)
+        told sort q (inr e) = inr (inl (q ∙ e))
+
+        by : (o : Outcome Starts) → answerOf file certificate ≡ o → a ≡ checkAnswer o → Either
+        by (taken (ofReplies region table sort L U C)) e f = told sort (λ x. f x .kind) (passed-kind file certificate region table sort L U C e)
+        by (taken (ofAttacks table L U)) e f = inr (inr (λ x. f x .kind))
+        by (refused n p) e f = absurd (not-zero n p e (λ x. f x .number) zero)
+
+    pub number-checked : 1 ≤ a .number → answerOf file certificate ≡ refused (a .number) (a .place)
+    unfolding checkAnswer
+    number-checked more = by (answerOf file certificate) refl is
+      where
+        by : (o : Outcome Starts) → answerOf file certificate ≡ o → a ≡ checkAnswer o → answerOf file certificate ≡ refused (a .number) (a .place)
+        by (taken (ofReplies region table sort L U C)) e f = let q : a .number ≡ 0 = λ x. f x .number in absurd (omega (arith, q, more))
+        by (taken (ofAttacks table L U)) e f = let q : a .number ≡ 0 = λ x. f x .number in absurd (omega (arith, q, more))
+        by (refused n p) e f = e ∙ sym (λ x. refused (f x .number) (f x .place))
 
 module _ (file before : List ℕ) (a : PrintAnswer) (is : a ≡ printAnswer (countOf (filePrinted file (length before)))) where
   pub zero-printed :
@@ -171,7 +189,8 @@ module _ (file before : List ℕ) (a : PrintAnswer) (is : a ≡ printAnswer (cou
           (c, reads, ap (λ (m : ℕ). circuitIn (take m after)) counted ∙ print-reads-back file c reads before after (Bytes n) n w refl)
       by (refused n p) e f =
           let q : a .number ≡ n = λ x. f x .number in
-          absurd (omega (arith, q, zero, writer-numbered file printed (length before) n p (count-refused-exactly file (length before) n p .0 e) .0))
+          let row = count-refused-exactly file (length before) n p .0 e in
+          absurd (omega (arith, q, zero, writer-numbered file printed (length before) n p row .0))
 
   pub number-printed : 1 ≤ a .number → countOf (filePrinted file (length before)) ≡ refused (a .number) (a .place)
   unfolding printAnswer

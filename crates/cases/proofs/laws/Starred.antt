@@ -40,7 +40,8 @@ use Rattle.game.specs.Verdict.{realizable}
 use Rattle.records.specs.AttackTable.{attackLength, storedRank, storedAttack, attackBytes}
 use Rattle.records.specs.Record.{recordOf, contentsLength, split}
 use Rattle.records.specs.RegionBits.{regionLength, holdsState, unusedBitSet, regionBytes}
-use Rattle.records.specs.ReplyBytes.{replyLength, storedReply, replyBytes}
+use Rattle.records.specs.ReplyBytes.{replyLength, byteReply, replyBytes}
+use Rattle.records.specs.ReplyTable.{tableLength, storedReply, unusedReplyBit, tableBytes}
 use Rattle.records.specs.Tables.{thirdOf, secondOf, firstOf as firstRecord, tablesOf, circuitPart}
 use Rattle.file.specs.CircuitIn.{circuitIn}
 use Rattle.listing.specs.Page.{verdictWord, listingText, refusalText, pageFor, pageOf}
@@ -59,7 +60,8 @@ unfolding flatMap bit odd oneIf byteBit sameBytes startsWith digits sum among me
     orBadSymbol symbolLines isControllableName isControllable circuitOf tooMany errorOf nextOf step literalValue put withInputs withLatches withGates
     valuation attack attackBroken circuitGame isRealizable keeps answered safe replyLine attackLine listingOf notRanked defeats defeated round
     ranksAfter rank inRegion reply replyBroken realizable attackLength storedRank storedAttack attackBytes recordOf contentsLength split regionLength
-    holdsState unusedBitSet unusedBit bitByte bitBytes regionBytes replyLength storedReply replyBytes thirdOf secondOf firstRecord tablesOf circuitPart
-    circuitIn orBadShape tablesChecked checkOf badReplyTables badAttackTable resetOutside resetUnranked brokenReply brokenAttack replyCertificate
-    attackCertificate certificateOf certified decimalWithin decimal numberLine verdictWord listingText refusalText pageFor pageOf lengthsOf answerTo
+    holdsState unusedBitSet unusedBit bitByte bitBytes regionBytes replyLength byteReply replyBytes tableLength storedReply unusedReplyBit tableBytes
+    thirdOf secondOf firstRecord tablesOf circuitPart circuitIn orBadShape tablesChecked checkOf badReplyTables badAttackTable resetOutside
+    resetUnranked brokenReply brokenAttack replyCertificate attackCertificate certificateOf certified decimalWithin decimal numberLine verdictWord
+    listingText refusalText pageFor pageOf lengthsOf answerTo
 starred-hold = refl

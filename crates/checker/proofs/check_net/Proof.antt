@@ -12,8 +12,8 @@ use Rattle.checker.proofs.check_net.Tie as tie
 -- the parts of the certificate, by its shape
 reply-lies : (w : tie.After-circuit-end) → ReplyParts acceptedKinds (w .before .before .before .before .before .before .args .certificate .now)
     (w .circuit-end .given .0 .0) (w .circuit-end .given .0 .1 .0) (w .circuit-end .given .0 .1 .1 .0) (w .circuit-end .given .0 .1 .1 .1 .0)
-    (w .circuit-end .given .0 .1 .1 .1 .1 .0)
-reply-lies w = reply-parts acceptedKinds _ _ _ _ _ _ (sym (w .circuit-end .given .1) ∙ w .before .before .shape-of .ensures)
+    (w .circuit-end .given .0 .1 .1 .1 .1 .0) (w .circuit-end .given .0 .1 .1 .1 .1 .1 .0)
+reply-lies w = reply-parts acceptedKinds _ _ _ _ _ _ _ (sym (w .circuit-end .given .1) ∙ w .before .before .shape-of .ensures)
 
 attack-lies : (w : tie.After-circuit-end2) → AttackParts acceptedKinds (w .before .before .before .before .before .before .args .certificate .now)
     (w .circuit-end2 .given .0 .0) (w .circuit-end2 .given .0 .1 .0) (w .circuit-end2 .given .0 .1 .1 .0)
@@ -33,7 +33,7 @@ unfolding checkedOutcome
 returns c =
     let w = c .before .before .before .before in
     let s = w .before .before .before .before .before .before in
-    replies-of-other (s .args .file .now) (s .args .net .now) (s .args .certificate .now) (s .pre) _ _ _ _ _ (reply-lies w)
+    replies-of-other (s .args .file .now) (s .args .net .now) (s .args .certificate .now) (s .pre) _ _ _ _ _ _ (reply-lies w)
     (sym (c .before .same-bytes .ensures) ∙ not-true _ (c .if1 .taken))
 
 sub-check-replies : tie.Need-sub-check-replies
@@ -90,7 +90,7 @@ returns-3 : tie.Need-returns-3
 returns-3 c =
     let w = c .before .before .before .before .before .before .before in
     let s = w .before .before .before .before .before .before in
-    replies-of-same (s .args .file .now) (s .args .net .now) (s .args .certificate .now) (s .pre) _ _ _ _ _ (reply-lies w)
+    replies-of-same (s .args .file .now) (s .args .net .now) (s .args .certificate .now) (s .pre) _ _ _ _ _ _ (reply-lies w)
     (sym (c .before .before .before .before .same-bytes .ensures) ∙ not-false _ (c .before .before .before .if1 .left)) _ (c .check-replies .ensures)
 
 returns-4 : tie.Need-returns-4

@@ -45,7 +45,7 @@ of-fails true false true (above e) = absurd (true≢false e)
 of-fails true false true (one e) = absurd (true≢false (sym e))
 of-fails true false true (out e) = absurd (true≢false e)
 
-module _ (c : Circuit) (region table : List ℕ) (s r : ℕ) (state : s < 2 ^ latchCount c) where
+module _ (c : Circuit) (region : List ℕ) (kind : ℕ) (table : List ℕ) (s r : ℕ) (state : s < 2 ^ latchCount c) where
   abbrev L : ℕ
   L = latchCount c
 
@@ -53,7 +53,7 @@ module _ (c : Circuit) (region table : List ℕ) (s r : ℕ) (state : s < 2 ^ la
   set = heldAt c region
 
   abbrev k : ℕ
-  k = replyAt c table s r
+  k = replyAt c kind table s r
 
   leads : step c s r k .next < 2 ^ L
   unfolding circuitGame
@@ -65,11 +65,11 @@ module _ (c : Circuit) (region table : List ℕ) (s r : ℕ) (state : s < 2 ^ la
   abbrev good : Bool
   good = ltb k (2 ^ controllableCount c) && (not (step c s r k .error) && set (step c s r k .next))
 
-  pub reply-breaks : (replyBroken (circuitGame c) (heldAt c region) (replyAt c table) s r ≡ true) ↔ ReplyBreaks c region table s r
+  pub reply-breaks : (replyBroken (circuitGame c) (heldAt c region) (replyAt c kind table) s r ≡ true) ↔ ReplyBreaks c region kind table s r
   unfolding replyBroken circuitGame keeps
   reply-breaks = (λ e. let (held, fault) = both-true (set s) _ e in to (holds-state region L s state .0 held) (fails _ _ _ fault), back)
     where
-      to : Holds region s → Faulty → ReplyBreaks c region table s r
+      to : Holds region s → Faulty → ReplyBreaks c region kind table s r
       to held (above e) = noControl held (ltb-false _ _ e)
       to held (one e) = errs held e
       to held (out e) = leadsOut held (test-fails _ (holds-state region L (step c s r k .next) leads) e)
@@ -77,7 +77,7 @@ module _ (c : Circuit) (region table : List ℕ) (s r : ℕ) (state : s < 2 ^ la
       with-held : Holds region s → Faulty → (set s && not good) ≡ true
       with-held held f = ap (λ (b : Bool). b && not good) (holds-state region L s state .1 held) ∙ of-fails _ _ _ f
 
-      back : ReplyBreaks c region table s r → (set s && not good) ≡ true
+      back : ReplyBreaks c region kind table s r → (set s && not good) ≡ true
       back (noControl held h) = with-held held (above (le-ltb _ _ h))
       back (errs held e) = with-held held (one e)
       back (leadsOut held o) = with-held held (out (fails-test _ (holds-state region L (step c s r k .next) leads) o))

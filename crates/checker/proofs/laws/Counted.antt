@@ -25,7 +25,7 @@ module _ (c : Circuit) (net : List ℕ) (is : net ≡ netOf c) where
   unfolding netReadings netOf
   net-readings-are = ap netReadings is
 
-  net-controls-are : netControls net ≡ controllableCount c
+  pub net-controls-are : netControls net ≡ controllableCount c
   unfolding netControls netOf
   net-controls-are = ap netControls is
 

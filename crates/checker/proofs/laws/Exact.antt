@@ -56,15 +56,15 @@ module _ (lowest : ℕ) (Wrong Reset : Type 0) (Lowest : ℕ → Type 0) (t : Ta
       rw (n, fails-test bad (w .wrong) a, fails-test reset (w .badly) b, is, at)
 
 module _ (c : Circuit) where
-  replies-say : (region table : List ℕ)
-      → Says (badReplyTables c region table) (resetOutside c region) (someReplyBroken c region table) (brokenReply c region table)
-      (WrongReplies c region table) (ResetNotHeld region) (LowestReply c region table)
-  replies-say region table =
+  replies-say : (region : List ℕ) (kind : ℕ) (table : List ℕ)
+      → Says (badReplyTables c region kind table) (resetOutside c region) (someReplyBroken c region kind table) (brokenReply c region kind table)
+      (WrongReplies c region kind table) (ResetNotHeld region) (LowestReply c region kind table)
+  replies-say region kind table =
       record {
-        wrong = replies-wrong c region table;
+        wrong = replies-wrong c region kind table;
         badly = reset-not-held c region;
-        finds = lowest-reply c region table;
-        found = reply-lowest c region table;
+        finds = lowest-reply c region kind table;
+        found = reply-lowest c region kind table;
       }
 
   attacks-say : (table : List ℕ)
@@ -81,12 +81,12 @@ module _ (c : Circuit) where
   -- and of tables
   tables-say : (t : Tables) → Said (TablesBroken c t) (tablesChecked c t)
   unfolding tablesChecked
-  tables-say (replies circuit region kind table) = tests-say _ _ _ _ _ _ _ _ (replies-say region table)
+  tables-say (replies circuit region kind table) = tests-say _ _ _ _ _ _ _ _ (replies-say region kind table)
   tables-say (attacks circuit table) = tests-say _ _ _ _ _ _ _ _ (attacks-say table)
 
   tables-refuse : (t : Tables) (number place : ℕ) → TablesBroken c t number place → tablesChecked c t ≡ refused number place
   unfolding tablesChecked
-  tables-refuse (replies circuit region kind table) number place w = judged-refuses _ _ _ _ _ _ _ _ number place (replies-say region table) w
+  tables-refuse (replies circuit region kind table) number place w = judged-refuses _ _ _ _ _ _ _ _ number place (replies-say region kind table) w
   tables-refuse (attacks circuit table) number place w = judged-refuses _ _ _ _ _ _ _ _ number place (attacks-say table) w
 
 module _ (file certificate : List ℕ) where

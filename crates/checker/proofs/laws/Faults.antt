@@ -9,7 +9,7 @@ use lib.Dec.{ltb}
 use lib.Pow.{pow-add}
 use Rattle.below.specs.Least.{least}
 use Rattle.blocks.specs.Lane.{width, moveIn, litsIn}
-use Rattle.circuit.specs.Circuit.{Circuit, latchCount, uncontrollableCount}
+use Rattle.circuit.specs.Circuit.{Circuit, latchCount, uncontrollableCount, controllableCount}
 use Rattle.game.specs.Attack.{attackBroken}
 use Rattle.game.specs.CircuitGame.{circuitGame}
 use Rattle.game.specs.Game.{Game}
@@ -22,37 +22,39 @@ use Rattle.net.specs.Net.{netLatches, netReadings, netControls}
 use Rattle.net.specs.NetOf.{netOf}
 use Rattle.records.specs.AttackTable.{storedRank, storedAttack}
 use Rattle.records.specs.RegionBits.{holdsState}
-use Rattle.records.specs.ReplyBytes.{storedReply}
+use Rattle.records.specs.ReplyTable.{storedReply}
 use Rattle.checker.specs.contracts.Faults.{stateAt, readingAt, replyIn, replyMove, replyFault, attackFault}
 use Rattle.checker.specs.Rules.{brokenReply, brokenAttack}
 use Rattle.checker.specs.contracts.Sized.{Sized, Holding}
 
-module _ (net region table : List ℕ) (i : ℕ) where
+module _ (net region : List ℕ) (kind : ℕ) (table : List ℕ) (i : ℕ) where
   -- whether the stored reply keeps in the stored region
   abbrev kept : (reply : ℕ) → Bool
   kept reply = keeps (netGame net) (holdsState region (netLatches net)) (stateAt net i) (readingAt net i) reply
 
-  pub outside-no-fault : holdsState region (netLatches net) (stateAt net i) ≡ false → false ≡ replyFault net region table i
+  pub outside-no-fault : holdsState region (netLatches net) (stateAt net i) ≡ false → false ≡ replyFault net region kind table i
   unfolding replyFault replyBroken
-  outside-no-fault e = sym (ap (λ (b : Bool). b && not (ltb (replyIn net table i) (netGame net .controls) && kept (replyIn net table i))) e)
+  outside-no-fault e = sym (ap (λ (b : Bool). b && not (ltb (replyIn net kind table i) (netGame net .controls) && kept (replyIn net kind table i))) e)
 
-  module _ (reply : ℕ) (inside : holdsState region (netLatches net) (stateAt net i) ≡ true) (is : reply ≡ replyIn net table i) where
-    inside-is : not (ltb reply (2 ^ netControls net) && kept reply) ≡ replyFault net region table i
+  module _ (reply : ℕ) (inside : holdsState region (netLatches net) (stateAt net i) ≡ true) (is : reply ≡ replyIn net kind table i) where
+    inside-is : not (ltb reply (2 ^ netControls net) && kept reply) ≡ replyFault net region kind table i
     unfolding replyFault replyBroken netGame
     inside-is =
         ap (λ (k : ℕ). not (ltb k (2 ^ netControls net) && kept k)) is
-        ∙ sym (ap (λ (b : Bool). b && not (ltb (replyIn net table i) (2 ^ netControls net) && kept (replyIn net table i))) inside)
+        ∙ sym (ap (λ (b : Bool). b && not (ltb (replyIn net kind table i) (2 ^ netControls net) && kept (replyIn net kind table i))) inside)
 
-    pub no-control-fault : 2 ^ netControls net ≤ reply → true ≡ replyFault net region table i
+    pub no-control-fault : 2 ^ netControls net ≤ reply → true ≡ replyFault net region kind table i
     no-control-fault h = sym (ap (λ (b : Bool). not (b && kept reply)) (le-ltb reply (2 ^ netControls net) h)) ∙ inside-is
 
-    control-fault : (b : Bool) → reply < 2 ^ netControls net → b ≡ kept reply → not b ≡ replyFault net region table i
+    control-fault : (b : Bool) → reply < 2 ^ netControls net → b ≡ kept reply → not b ≡ replyFault net region kind table i
     control-fault b h e =
         ap not e ∙ sym (ap (λ (d : Bool). not (d && kept reply)) (lt-ltb reply (2 ^ netControls net) h)) ∙ inside-is
 
     -- by the lane of the reply's move, in a block that is evaluated
-    pub lane-fault : Sized net → (words : List ℕ) (move j : ℕ) (b : Bool) → Holding net (move / width) words → move ≡ replyMove net table i → j ≡ move % width
-        → reply < 2 ^ netControls net → b ≡ keepsBy (holdsState region (netLatches net)) net (litsIn words j) → not b ≡ replyFault net region table i
+    pub lane-fault :
+        Sized net → (words : List ℕ) (move j : ℕ) (b : Bool) → Holding net (move / width) words → move ≡ replyMove net kind table i
+        → j ≡ move % width → reply < 2 ^ netControls net → b ≡ keepsBy (holdsState region (netLatches net)) net (litsIn words j)
+        → not b ≡ replyFault net region kind table i
     unfolding moveIn replyMove
     lane-fault sized words move j b holds m e h k =
         let (before, lits) = holds j (omega arith) in
@@ -65,20 +67,21 @@ module _ (net region table : List ℕ) (i : ℕ) where
         here = omega arith
 
 module _ (c : Circuit) (net : List ℕ) (is : net ≡ netOf c) where
-  module _ (region table : List ℕ) where
-    reply-search : (g : Game) (L U : ℕ) → ℕ
-    reply-search g L U =
-        least (λ i. replyBroken g (holdsState region L) (storedReply table L U) (i / 2 ^ U) (i % 2 ^ U)) (2 ^ (L + U))
+  module _ (region : List ℕ) (kind : ℕ) (table : List ℕ) where
+    reply-search : (g : Game) (L U C : ℕ) → ℕ
+    reply-search g L U C =
+        least (λ i. replyBroken g (holdsState region L) (storedReply kind table L U C) (i / 2 ^ U) (i % 2 ^ U)) (2 ^ (L + U))
 
     -- the search over the flat index
-    pub broken-reply-is : least (replyFault net region table) (2 ^ (netLatches net + netReadings net)) ≡ brokenReply c region table
-    unfolding brokenReply replyFault circuitGame netOf netLatches netReadings reply-search least
+    pub broken-reply-is : least (replyFault net region kind table) (2 ^ (netLatches net + netReadings net)) ≡ brokenReply c region kind table
+    unfolding brokenReply replyFault circuitGame netOf netLatches netReadings netControls reply-search least
     broken-reply-is =
-        ap (λ (m : List ℕ). least (replyFault m region table) (2 ^ (netLatches m + netReadings m))) is
-        ∙ ap (λ (g : Game). reply-search g (latchCount c) (uncontrollableCount c)) (net-game c)
+        ap (λ (m : List ℕ). least (replyFault m region kind table) (2 ^ (netLatches m + netReadings m))) is
+        ∙ ap (λ (g : Game). reply-search g (latchCount c) (uncontrollableCount c) (controllableCount c)) (net-game c)
         ∙ ap
-        (least (λ i. replyBroken (circuitGame c) (holdsState region (latchCount c)) (storedReply table (latchCount c) (uncontrollableCount c))
-        (i / 2 ^ uncontrollableCount c) (i % 2 ^ uncontrollableCount c)))
+        (least (λ i. replyBroken (circuitGame c) (holdsState region (latchCount c))
+        (storedReply kind table (latchCount c) (uncontrollableCount c) (controllableCount c)) (i / 2 ^ uncontrollableCount c)
+        (i % 2 ^ uncontrollableCount c)))
         (pow-add 2 (latchCount c) (uncontrollableCount c))
 
   module _ (table : List ℕ) where

@@ -10,11 +10,11 @@ use lib.ListN.{length}
 use lib.Pow.{pow-add, pow-pos}
 use Rattle.below.specs.Least.{any, every}
 use Rattle.below.proofs.laws.Least.{any-of, none-any}
-use Rattle.circuit.specs.Circuit.{Circuit, latchCount, uncontrollableCount}
+use Rattle.circuit.specs.Circuit.{Circuit, latchCount, uncontrollableCount, controllableCount}
 use Rattle.circuit.specs.Outcome.{Outcome, taken, refused, _>>_}
 use Rattle.circuit.specs.Reset.{isReset}
 use Rattle.game.specs.CircuitGame.{circuitGame}
-use Rattle.net.specs.Net.{netLatches, netReadings}
+use Rattle.net.specs.Net.{netLatches, netReadings, netControls}
 use Rattle.net.specs.NetOf.{netOf}
 use Rattle.records.specs.AttackTable.{attackLength, storedRank}
 use Rattle.records.specs.RegionBits.{holdsState}
@@ -26,7 +26,7 @@ use Rattle.checker.specs.Rules.{badlySized, badReplyTables, badAttackTab
 use Rattle.checker.specs.Rules.{brokenReply, someReplyBroken, brokenAttack, someAttackBroken}
 use Rattle.checker.specs.contracts.Faults.{firstReplyFault, firstAttackFault}
 use Rattle.checker.specs.contracts.TablesAs.{RepliesAs, AttacksAs}
-use Rattle.checker.proofs.laws.Counted.{net-latches-are, net-readings-are}
+use Rattle.checker.proofs.laws.Counted.{net-latches-are, net-readings-are, net-controls-are}
 use Rattle.checker.proofs.laws.Faults.{broken-reply-is, broken-attack-is}
 use Rattle.checker.proofs.laws.JudgedBy.{judged-bad, judged-reset, judged-broken, judged-fine}
 
@@ -65,10 +65,10 @@ reset-unranked-is c table =
 told : (o judged : Outcome Tables) (passed : Outcome Starts) → judged ≡ o → (o >> passed) ≡ (judged >> passed)
 told o judged passed e = ap (λ (p : Outcome Tables). p >> passed) (sym e)
 
-module _ (net region table : List ℕ) (L U start behind : ℕ) (latches : L ≡ netLatches net) (readings : U ≡ netReadings net) (bad : Bool)
-    (sizes : bad ≡ badlySized region table L U) where
+module _ (net region : List ℕ) (kind : ℕ) (table : List ℕ) (L U C start behind : ℕ) (latches : L ≡ netLatches net)
+    (readings : U ≡ netReadings net) (controls : C ≡ netControls net) (bad : Bool) (sizes : bad ≡ badlySized region kind table L U C) where
   abbrev Answers : Outcome Starts → Type 0
-  Answers answer = RepliesAs net region table start behind answer
+  Answers answer = RepliesAs net region kind table start behind answer
 
   module _ (c : Circuit) (is : net ≡ netOf c) where
     same-latches : L ≡ latchCount c
@@ -77,44 +77,47 @@ module _ (net region table : List ℕ) (L U start behind : ℕ) (latches : L ≡
     same-readings : U ≡ uncontrollableCount c
     same-readings = readings ∙ net-readings-are c net is
 
-    bad-is : badReplyTables c region table ≡ bad
+    same-controls : C ≡ controllableCount c
+    same-controls = controls ∙ net-controls-are c net is
+
+    bad-is : badReplyTables c region kind table ≡ bad
     unfolding badReplyTables
-    bad-is = sym (sizes ∙ ap₂ (badlySized region table) same-latches same-readings)
+    bad-is = sym (sizes ∙ λ x. badlySized region kind table (same-latches x) (same-readings x) (same-controls x))
 
     outside-is : (b : Bool) → holdsState region L 0 ≡ b → resetOutside c region ≡ not b
     outside-is b e = reset-outside-is c region ∙ ap not (ap (λ (n : ℕ). holdsState region n 0) (sym same-latches) ∙ e)
 
-    place-is : (place : ℕ) → place ≡ firstReplyFault net region table → place ≡ brokenReply c region table
-    place-is place e = e ∙ broken-reply-is c net is region table
+    place-is : (place : ℕ) → place ≡ firstReplyFault net region kind table → place ≡ brokenReply c region kind table
+    place-is place e = e ∙ broken-reply-is c net is region kind table
 
-    broken-is : (place : ℕ) → place ≡ brokenReply c region table → someReplyBroken c region table ≡ ltb place (2 ^ (L + U))
+    broken-is : (place : ℕ) → place ≡ brokenReply c region kind table → someReplyBroken c region kind table ≡ ltb place (2 ^ (L + U))
     unfolding circuitGame
     broken-is place e =
         ap₂ ltb (sym e) (sym (pow-add 2 L U ∙ ap₂ (λ (n m : ℕ). 2 ^ n * 2 ^ m) same-latches same-readings))
 
   pub replies-badly-sized : bad ≡ true → Answers (refused badTable 0)
   unfolding tablesChecked
-  replies-badly-sized e c is circuit kind = told _ _ _ (judged-bad _ _ _ _ _ (bad-is c is ∙ e))
+  replies-badly-sized e c is circuit = told _ _ _ (judged-bad _ _ _ _ _ (bad-is c is ∙ e))
 
   module _ (sized : bad ≡ false) where
     pub replies-badly-reset : holdsState region L 0 ≡ false → Answers (refused badReset 0)
     unfolding tablesChecked
-    replies-badly-reset f c is circuit kind = told _ _ _ (judged-reset _ _ _ _ _ (bad-is c is ∙ sized) (outside-is c is false f))
+    replies-badly-reset f c is circuit = told _ _ _ (judged-reset _ _ _ _ _ (bad-is c is ∙ sized) (outside-is c is false f))
 
     module _ (f : holdsState region L 0 ≡ true) (place : ℕ)
-        (lowest : place ≡ firstReplyFault net region table) where
+        (lowest : place ≡ firstReplyFault net region kind table) where
       pub replies-broken : place < 2 ^ (L + U) → Answers (refused brokenStep place)
       unfolding tablesChecked
-      replies-broken h c is circuit kind =
+      replies-broken h c is circuit =
           let at = place-is c is place lowest in
           ap (refused brokenStep) at
           ∙ told _ _ _ (judged-broken _ _ _ _ _ (bad-is c is ∙ sized) (outside-is c is true f) (broken-is c is place at ∙ lt-ltb _ _ h))
 
-      pub replies-pass : 2 ^ (L + U) ≤ place → Answers (taken (ofReplies start behind L U))
+      pub replies-pass : 2 ^ (L + U) ≤ place → Answers (taken (ofReplies start behind kind L U C))
       unfolding tablesChecked
-      replies-pass h c is circuit kind =
+      replies-pass h c is circuit =
           let at = place-is c is place lowest in
-          (λ x. taken (ofReplies start behind (latches x) (readings x)))
+          (λ x. taken (ofReplies start behind kind (latches x) (readings x) (controls x)))
           ∙ told _ _ _ (judged-fine _ _ _ _ _ (bad-is c is ∙ sized) (outside-is c is true f) (broken-is c is place at ∙ le-ltb _ _ h))
 
 module _ (net table : List ℕ) (L start states rank : ℕ) (latches : L ≡ netLatches net) (all : states ≡ 2 ^ L) (ranked : rank ≡ storedRank table L 0) where

@@ -56,6 +56,6 @@ module _ {B : Type 0} (f : Tables → Outcome B) where
   pub tables-then : (c : Circuit) (t : Tables) → (tablesChecked c t >>= f) ≡ (tablesChecked c t >> f t)
   unfolding tablesChecked
   tables-then c (replies circuit region kind table) =
-      judged-then (badReplyTables c region table) (resetOutside c region) (someReplyBroken c region table) (brokenReply c region table) _
+      judged-then (badReplyTables c region kind table) (resetOutside c region) (someReplyBroken c region kind table) (brokenReply c region kind table) _
   tables-then c (attacks circuit table) =
       judged-then (badAttackTable c table) (resetUnranked c table) (someAttackBroken c table) (brokenAttack c table) _

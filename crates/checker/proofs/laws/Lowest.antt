@@ -29,7 +29,7 @@ not-below p n i e = by (ltb i (least p n)) refl
     by true f = absurd (true≢false (sym e ∙ least-before p n i (ltb-true _ _ f)))
     by false f = ltb-false _ _ f
 
-module _ (c : Circuit) (region table : List ℕ) where
+module _ (c : Circuit) (region : List ℕ) (kind : ℕ) (table : List ℕ) where
   abbrev m : ℕ
   m = 2 ^ latchCount c
 
@@ -37,7 +37,7 @@ module _ (c : Circuit) (region table : List ℕ) where
   n = 2 ^ uncontrollableCount c
 
   abbrev broken : ℕ → ℕ → Bool
-  broken = replyBroken (circuitGame c) (heldAt c region) (replyAt c table)
+  broken = replyBroken (circuitGame c) (heldAt c region) (replyAt c kind table)
 
   abbrev flat : ℕ → Bool
   flat i = broken (i / n) (i % n)
@@ -51,7 +51,7 @@ module _ (c : Circuit) (region table : List ℕ) where
   reading-of : (i : ℕ) → i % n < n
   reading-of i = mod-lt i (pow-pos (uncontrollableCount c))
 
-  pub lowest-reply : someReplyBroken c region table ≡ true → LowestReply c region table (brokenReply c region table)
+  pub lowest-reply : someReplyBroken c region kind table ≡ true → LowestReply c region kind table (brokenReply c region kind table)
   unfolding brokenReply circuitGame
   lowest-reply e =
       let i : ℕ = least flat (m * n) in
@@ -62,11 +62,13 @@ module _ (c : Circuit) (region table : List ℕ) where
         isState = state-of i h;
         isReading = reading-of i;
         at = sym (div-add-mod' i n);
-        breaks = reply-breaks c region table (i / n) (i % n) (state-of i h) .0 (least-holds flat (m * n) h);
-        lowest = λ s r state reading b. not-below flat (m * n) (s * n + r) (flat-is s r reading ∙ reply-breaks c region table s r state .1 b);
+        breaks = reply-breaks c region kind table (i / n) (i % n) (state-of i h) .0 (least-holds flat (m * n) h);
+        lowest = λ s r state reading b. not-below flat (m * n) (s * n + r) (flat-is s r reading ∙ reply-breaks c region kind table s r state .1 b);
       }
 
-  pub reply-lowest : (place : ℕ) → LowestReply c region table place → (someReplyBroken c region table ≡ true) × (brokenReply c region table ≡ place)
+  pub reply-lowest :
+      (place : ℕ) → LowestReply c region kind table place
+      → (someReplyBroken c region kind table ≡ true) × (brokenReply c region kind table ≡ place)
   unfolding brokenReply circuitGame
   reply-lowest place w = (lt-ltb (least flat (m * n)) (m * n) (omega (arith, is, below)), is)
     where
@@ -74,12 +76,14 @@ module _ (c : Circuit) (region table : List ℕ) where
       below = omega (arith, w .at, digits-lt {q = w .state} {m = m} {r = w .reading} {c = n} (w .isState) (w .isReading))
 
       there : flat place ≡ true
-      there = ap flat (w .at) ∙ flat-is (w .state) (w .reading) (w .isReading) ∙ reply-breaks c region table (w .state) (w .reading) (w .isState) .1 (w .breaks)
+      there =
+          ap flat (w .at) ∙ flat-is (w .state) (w .reading) (w .isReading)
+          ∙ reply-breaks c region kind table (w .state) (w .reading) (w .isState) .1 (w .breaks)
 
       before : (j : ℕ) → j < place → flat j ≡ false
       before j h =
           let state : j / n < m = state-of j (omega (arith, h, below)) in
-          fails-test (flat j) (reply-breaks c region table (j / n) (j % n) state)
+          fails-test (flat j) (reply-breaks c region kind table (j / n) (j % n) state)
           (λ b. omega (arith, h, w .lowest (j / n) (j % n) state (reading-of j) b, div-add-mod' j n))
 
       is : least flat (m * n) ≡ place

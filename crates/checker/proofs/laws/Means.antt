@@ -43,14 +43,14 @@ zero-reset : (c : Circuit) (s : ℕ) → isReset c s ≡ true → s ≡ 0
 unfolding isReset
 zero-reset c s e = eqb-true s 0 e
 
-module _ (c : Circuit) (region table : List ℕ) (fine : RepliesPass c region table) where
+module _ (c : Circuit) (region : List ℕ) (kind : ℕ) (table : List ℕ) (fine : RepliesPass c region kind table) where
   -- for every finite run of readings a reply is there, the error is 0 and the state stays in the stored region
   pub replies-hold :
-      (rs : List ℕ) → AllBelow (2 ^ uncontrollableCount c) rs → RepliesHold (circuitGame c) (heldAt c region) (replyAt c table) 0 rs
+      (rs : List ℕ) → AllBelow (2 ^ uncontrollableCount c) rs → RepliesHold (circuitGame c) (heldAt c region) (replyAt c kind table) 0 rs
   unfolding circuitGame
   replies-hold rs h =
-      replies-play (circuitGame c) (circuit-proper c) (heldAt c region) (replyAt c table) (no-reply-broken c region table fine) 0 (pow-pos (latchCount c))
-      (reset-held c region table fine 0 (pow-pos (latchCount c)) (reset-zero c)) rs h
+      replies-play (circuitGame c) (circuit-proper c) (heldAt c region) (replyAt c kind table) (no-reply-broken c region kind table fine) 0
+      (pow-pos (latchCount c)) (reset-held c region kind table fine 0 (pow-pos (latchCount c)) (reset-zero c)) rs h
 
   pub replies-realizable : isRealizable c ≡ true
   unfolding isRealizable
@@ -58,8 +58,8 @@ module _ (c : Circuit) (region table : List ℕ) (fine : RepliesPass c region ta
       realizable-complete (circuitGame c) (circuit-proper c) (isReset c)
       (record {
         set = λ s. heldAt c region s ≡ true;
-        closed = unbroken-closed (circuitGame c) (heldAt c region) (replyAt c table) (no-reply-broken c region table fine);
-        holdsReset = reset-held c region table fine;
+        closed = unbroken-closed (circuitGame c) (heldAt c region) (replyAt c kind table) (no-reply-broken c region kind table fine);
+        holdsReset = reset-held c region kind table fine;
       })
 
 module _ (c : Circuit) (table : List ℕ) (fine : AttacksPass c table) where

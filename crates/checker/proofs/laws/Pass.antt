@@ -24,10 +24,10 @@ use Rattle.checker.specs.Rules.{brokenReply, someReplyBroken, brokenAtta
 use Rattle.checker.proofs.laws.JudgedBy.{judged-fine, fine-judged}
 
 -- no number applies to a reply table
-pub record RepliesPass (c : Circuit) (region table : List ℕ) : Type 0 where
-  pub sized : badReplyTables c region table ≡ false
+pub record RepliesPass (c : Circuit) (region : List ℕ) (kind : ℕ) (table : List ℕ) : Type 0 where
+  pub sized : badReplyTables c region kind table ≡ false
   pub reset : resetOutside c region ≡ false
-  pub rule : someReplyBroken c region table ≡ false
+  pub rule : someReplyBroken c region kind table ≡ false
 
 -- no number applies to an attack table
 pub record AttacksPass (c : Circuit) (table : List ℕ) : Type 0 where
@@ -36,13 +36,13 @@ pub record AttacksPass (c : Circuit) (table : List ℕ) : Type 0 where
   pub rule : someAttackBroken c table ≡ false
 
 abbrev pub TablesPass : Circuit → Tables → Type 0
-TablesPass c (replies circuit region kind table) = RepliesPass c region table
+TablesPass c (replies circuit region kind table) = RepliesPass c region kind table
 TablesPass c (attacks circuit table) = AttacksPass c table
 
 pub tables-pass : (c : Circuit) (u t : Tables) → tablesChecked c u ≡ taken t → (u ≡ t) × TablesPass c u
 unfolding tablesChecked
 tables-pass c (replies circuit region kind table) t e =
-    let fine = fine-judged _ _ _ (brokenReply c region table) (replies circuit region kind table) t e in
+    let fine = fine-judged _ _ _ (brokenReply c region kind table) (replies circuit region kind table) t e in
     (fine .same, record { sized = fine .sized; reset = fine .reset-is; rule = fine .rule })
 tables-pass c (attacks circuit table) t e =
     let fine = fine-judged _ _ _ (brokenAttack c table) (attacks circuit table) t e in

@@ -11,7 +11,7 @@ use Rattle.game.specs.NetGame.{netMove}
 use Rattle.net.specs.Move.{moveOf}
 use Rattle.net.specs.Net.{netLatches, netReadings, netControls}
 use Rattle.records.specs.RegionBits.{holdsState}
-use Rattle.records.specs.ReplyBytes.{storedReply}
+use Rattle.records.specs.ReplyTable.{storedReply}
 use Rattle.checker.specs.contracts.Faults.{stateAt, replyIn, replyMove}
 use Rattle.checker.specs.contracts.Sized.{Sized}
 use Rattle.checker.proofs.laws.Counted.{limited-move}
@@ -29,21 +29,32 @@ module _ (U width : ℕ) (is : width ≡ 2 ^ U) where
       omega (arith, pow-mono {i = L} {j = base .latches} few)
 
 -- what the code finds at a place: its state, its stored reply, and the move of that
-module _ (net table : List ℕ) (place L U w : ℕ) (latches : L ≡ netLatches net) (readings : U ≡ netReadings net) (is : w ≡ 2 ^ U) where
+module _ (net : List ℕ) (place L U w : ℕ) (latches : L ≡ netLatches net) (readings : U ≡ netReadings net) (is : w ≡ 2 ^ U) where
   wide : (v : ℕ) → v ≡ 2 ^ U → v ≡ 2 ^ netReadings net
   wide v e = e ∙ ap (λ (n : ℕ). 2 ^ n) readings
 
   pub held-is : (region : List ℕ) (h : Bool) → h ≡ holdsState region L (place / w) → h ≡ holdsState region (netLatches net) (stateAt net place)
   held-is region h e = e ∙ λ x. holdsState region (latches x) (place / wide w is x)
 
-  module _ (v : ℕ) (also : v ≡ 2 ^ U) (reply : ℕ) (stored : reply ≡ storedReply table L U (place / w) (place % v)) where
-    pub reply-is : reply ≡ replyIn net table place
-    reply-is = stored ∙ λ x. storedReply table (latches x) (readings x) (place / wide w is x) (place % wide v also x)
+  module _ (sized : Sized net) (C : ℕ) (controls : C ≡ netControls net) (kind : ℕ) (table : List ℕ) (v : ℕ) (also : v ≡ 2 ^ U) (reply : ℕ)
+      (stored : reply ≡ storedReply kind table (min L 10) (min U 5) (min C 8) (place / w) (place % v)) where
+    pub reply-is : reply ≡ replyIn net kind table place
+    reply-is = stored ∙ λ x. storedReply kind table (l x) (u x) (d x) (place / wide w is x) (place % wide v also x)
+      where
+        l : min L 10 ≡ netLatches net
+        l = omega (arith, sized .order .states)
 
-    pub move-is : Sized net → (C move : ℕ) → C ≡ netControls net
-        → move ≡ moveOf (min L (base .latches)) (min U (base .inputs)) (min C (base .inputs)) (place / w) (place % v) reply → move ≡ replyMove net table place
+        u : min U 5 ≡ netReadings net
+        u = omega (arith, sized .fewReadings)
+
+        d : min C 8 ≡ netControls net
+        d = omega (arith, sized .fewControls)
+
+    pub move-is :
+        (move : ℕ) → move ≡ moveOf (min L (base .latches)) (min U (base .inputs)) (min C (base .inputs)) (place / w) (place % v) reply
+        → move ≡ replyMove net kind table place
     unfolding replyMove
-    move-is sized C move controls e =
+    move-is move e =
         e ∙ limited-move net sized L U C latches readings controls (place / w) (place % v) reply
         ∙ λ x. netMove net (place / wide w is x) (place % wide v also x) (reply-is x)
 

@@ -23,14 +23,14 @@ use Rattle.checker.proofs.laws.Pass.{RepliesPass, AttacksPass}
 flat : (p : ℕ → ℕ → Bool) (n s r : ℕ) → r < n → p ((s * n + r) / n) ((s * n + r) % n) ≡ p s r
 flat p n s r h = ap₂ p (digits-div s h) (digits-mod s h)
 
-module _ (c : Circuit) (region table : List ℕ) (passes : RepliesPass c region table) where
+module _ (c : Circuit) (region : List ℕ) (kind : ℕ) (table : List ℕ) (passes : RepliesPass c region kind table) where
   pub no-reply-broken :
       (s r : ℕ) → s < circuitGame c .states → r < circuitGame c .readings
-      → replyBroken (circuitGame c) (heldAt c region) (replyAt c table) s r ≡ false
+      → replyBroken (circuitGame c) (heldAt c region) (replyAt c kind table) s r ≡ false
   unfolding brokenReply
   no-reply-broken s r h l =
       let n = circuitGame c .readings in
-      let p = replyBroken (circuitGame c) (heldAt c region) (replyAt c table) in
+      let p = replyBroken (circuitGame c) (heldAt c region) (replyAt c kind table) in
       let all = ltb-false (least (λ i. p (i / n) (i % n)) (circuitGame c .states * n)) (circuitGame c .states * n) (passes .rule) in
       sym (flat p n s r l)
       ∙ least-before (λ i. p (i / n) (i % n)) (circuitGame c .states * n) (s * n + r)

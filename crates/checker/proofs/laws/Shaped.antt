@@ -9,7 +9,7 @@ use lib.ListN.{length}
 use Rattle.bits.specs.Bytes.{sameBytes}
 use Rattle.circuit.specs.Circuit.{Circuit}
 use Rattle.circuit.specs.Outcome.{Outcome, taken, refused, _>>_}
-use Rattle.net.specs.Net.{netLatches, netReadings}
+use Rattle.net.specs.Net.{netLatches, netReadings, netControls}
 use Rattle.records.specs.Record.{headLength}
 use Rattle.records.specs.Tables.{acceptedKinds, Tables, replies, attacks, circuitPart, tablesOf}
 use Rattle.records.specs.contracts.Part.{part}
@@ -20,7 +20,7 @@ use Rattle.checker.specs.Check.{tablesChecked}
 use Rattle.checker.specs.Numbers.{badShape, otherCircuit}
 use Rattle.checker.specs.contracts.FileNet.{FileNet}
 use Rattle.checker.specs.contracts.TablesAs.{RepliesAs, AttacksAs}
-use Rattle.checker.proofs.laws.Counted.{net-latches-are, net-readings-are}
+use Rattle.checker.proofs.laws.Counted.{net-latches-are, net-readings-are, net-controls-are}
 use Rattle.checker.proofs.laws.JudgedBy.{tables-then}
 use Rattle.checker.proofs.laws.Stages.{misshapen-refused, other-refused, same-goes-on, answer-told}
 
@@ -42,8 +42,8 @@ module _ (file net certificate : List ℕ) (given : FileNet file net) where
         ap (λ (u : Starts). tablesChecked c t >> taken u) e ∙ sym (tables-then (λ u. taken (startsOf c u)) c t)
         ∙ sym (answer-told file certificate c (given .read) (tablesChecked c t) (same-goes-on file certificate c (given .read) t shape f))
 
-  module _ (circuitEnd region regionEnd table tableEnd : ℕ)
-      (parts : ReplyParts acceptedKinds certificate circuitEnd region regionEnd table tableEnd) where
+  module _ (circuitEnd region regionEnd table tableEnd kind : ℕ)
+      (parts : ReplyParts acceptedKinds certificate circuitEnd region regionEnd table tableEnd kind) where
     pub replies-of-other : sameBytes (part headLength circuitEnd certificate) file ≡ false → refused otherCircuit 0 ≡ answerOf file certificate
     unfolding circuitPart
     replies-of-other f = other _ (parts .tables) f
@@ -57,7 +57,9 @@ module _ (file net certificate : List ℕ) (given : FileNet file net) where
     abbrev tableBytes : List ℕ
     tableBytes = part table tableEnd certificate
 
-    starts-are : ofReplies region table (netLatches net) (netReadings net) ≡ startsOf c (replies circuitBytes regionBytes (parts .kind) tableBytes)
+    starts-are :
+        ofReplies region table kind (netLatches net) (netReadings net) (netControls net)
+        ≡ startsOf c (replies circuitBytes regionBytes kind tableBytes)
     unfolding startsOf
     starts-are =
         let one = length-part headLength circuitEnd certificate (parts .circuitPart .inside) in
@@ -65,13 +67,14 @@ module _ (file net certificate : List ℕ) (given : FileNet file net) where
         let first : region ≡ headLength + length circuitBytes + headLength = omega (arith, parts .regionAt, parts .circuitPart) in
         let second : table ≡ headLength + length circuitBytes + headLength + length regionBytes + headLength =
         omega (arith, parts .regionAt, parts .tableAt, parts .circuitPart, parts .regionPart) in
-        λ i. ofReplies (first i) (second i) (net-latches-are c net (given .is) i) (net-readings-are c net (given .is) i)
+        λ i. ofReplies (first i) (second i) kind (net-latches-are c net (given .is) i) (net-readings-are c net (given .is) i)
+        (net-controls-are c net (given .is) i)
 
     pub replies-of-same :
-        sameBytes circuitBytes file ≡ true → (answer : Outcome Starts) → RepliesAs net regionBytes tableBytes region table answer
+        sameBytes circuitBytes file ≡ true → (answer : Outcome Starts) → RepliesAs net regionBytes kind tableBytes region table answer
         → answer ≡ answerOf file certificate
     unfolding circuitPart
-    replies-of-same f answer judged = judged c (given .is) circuitBytes (parts .kind) ∙ same _ (parts .tables) f _ starts-are
+    replies-of-same f answer judged = judged c (given .is) circuitBytes ∙ same _ (parts .tables) f _ starts-are
 
   module _ (circuitEnd table tableEnd : ℕ) (parts : AttackParts acceptedKinds certificate circuitEnd table tableEnd) where
     pub attacks-of-other : sameBytes (part headLength circuitEnd certificate) file ≡ false → refused otherCircuit 0 ≡ answerOf file certificate

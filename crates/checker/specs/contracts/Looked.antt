@@ -13,8 +13,8 @@ abbrev pub HeldThere : (net region : List ℕ) (place : ℕ) → Type 0
 HeldThere net region i = holdsState region (netLatches net) (stateAt net i) ≡ true
 
 -- needed there, and what a look leaves
-abbrev pub AtHand : (net region table : List ℕ) (place : ℕ) (words : List ℕ) → Type 0
-AtHand net region table i words = HeldThere net region i → Holding net (replyMove net table i / width) words
+abbrev pub AtHand : (net region : List ℕ) (kind : ℕ) (table : List ℕ) (place : ℕ) (words : List ℕ) → Type 0
+AtHand net region kind table i words = HeldThere net region i → Holding net (replyMove net kind table i / width) words
 
-abbrev pub Looked : (net region table : List ℕ) (place block : ℕ) (words : List ℕ) → Type 0
-Looked net region table i block words = Holding net block words × (HeldThere net region i → block ≡ replyMove net table i / width)
+abbrev pub Looked : (net region : List ℕ) (kind : ℕ) (table : List ℕ) (place block : ℕ) (words : List ℕ) → Type 0
+Looked net region kind table i block words = Holding net block words × (HeldThere net region i → block ≡ replyMove net kind table i / width)

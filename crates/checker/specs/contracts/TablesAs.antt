@@ -5,17 +5,18 @@ use mathlib.Core.List.{List}
 use mathlib.Core.Path.{_≡_}
 use Rattle.circuit.specs.Circuit.{Circuit}
 use Rattle.circuit.specs.Outcome.{Outcome, taken, _>>_}
-use Rattle.net.specs.Net.{netLatches, netReadings}
+use Rattle.net.specs.Net.{netLatches, netReadings, netControls}
 use Rattle.net.specs.NetOf.{netOf}
 use Rattle.records.specs.Tables.{replies, attacks}
 use Rattle.checker.specs.Answer.{Starts, ofReplies, ofAttacks}
 use Rattle.checker.specs.Check.{tablesChecked}
 
 -- of a region and a reply table, and of an attack table
-abbrev pub RepliesAs : (net region table : List ℕ) (start behind : ℕ) (answer : Outcome Starts) → Type 0
-RepliesAs net region table start behind answer =
-    (c : Circuit) → net ≡ netOf c → (circuit : List ℕ) (kind : ℕ)
-    → answer ≡ (tablesChecked c (replies circuit region kind table) >> taken (ofReplies start behind (netLatches net) (netReadings net)))
+abbrev pub RepliesAs : (net region : List ℕ) (kind : ℕ) (table : List ℕ) (start behind : ℕ) (answer : Outcome Starts) → Type 0
+RepliesAs net region kind table start behind answer =
+    (c : Circuit) → net ≡ netOf c → (circuit : List ℕ)
+    → answer ≡ (tablesChecked c (replies circuit region kind table)
+    >> taken (ofReplies start behind kind (netLatches net) (netReadings net) (netControls net)))
 
 abbrev pub AttacksAs : (net table : List ℕ) (start : ℕ) (answer : Outcome Starts) → Type 0
 AttacksAs net table start answer =

@@ -1,12 +1,12 @@
 -- The three rules of the mission, sentence by sentence. A promise stands here as it stands at its function: `ReadAs`, `WrittenAs` and
 -- `CertifiedAs` say which answer and which buffer a call may leave, `answerOf` what a check answers, `readAnswer` and the like what other
 -- languages are answered. What holds for every such answer holds for the code. Each proof cites the law that carries it. Assumes nothing.
-use Prim.Native.Nat.{ℕ, _*_, _^_, _<_, _≤_}
+use Prim.Native.Nat.{ℕ, _*_, _^_, _<_, _≤_, min}
 use lib.Pow.{pow-mono}
 use mathlib.Core.Bool.{true, false, _&&_}
 use mathlib.Core.List.{List, [], List·Memᴰ}
 use mathlib.Core.Logic.{_↔_, _⊎_, _≢_}
-use mathlib.Core.Path.{_≡_, sym, _∙_}
+use mathlib.Core.Path.{_≡_, sym, _∙_, subst}
 use lib.Dec.{ltb}
 use lib.ListN.{length, take, drop}
 use Rattle.bits.specs.Bit.{oneIf}
@@ -59,8 +59,13 @@ use Rattle.solver.specs.RankTable.{rankTable}
 use Rattle.solver.proofs.laws.RankTable.{rank-in-table}
 use Rattle.records.specs.AttackTable.{storedRank, storedAttack}
 use Rattle.records.specs.CircuitRecord.{circuitRecord}
+use Rattle.records.specs.PackedReplies.{packedReply, packedReplyBytes}
 use Rattle.records.specs.Passed.{replyIn}
+use Rattle.records.specs.Record.{replyKind, packedKind}
 use Rattle.records.specs.RegionBits.{regionLength, holdsState}
+use Rattle.records.specs.ReplyBytes.{byteReply, replyBytes}
+use Rattle.records.specs.ReplyTable.{storedReply}
+use Rattle.records.proofs.laws.PackedReplies.{packed-reads-as-bytes as packed-as-bytes}
 use Rattle.file.specs.CircuitIn.{circuitIn}
 use Rattle.file.specs.WriterRow.{WriterRow}
 use Rattle.file.proofs.laws.Exact.{reader-refused-exactly}
@@ -77,6 +82,10 @@ use Rattle.checker.proofs.laws.Exact.{check-refused-exactly}
 use Rattle.checker.proofs.laws.Numbered.{check-numbered}
 use Rattle.checker.proofs.laws.ReadPassed.{
   passed-reads,
+  passed-kind,
+  replies-took,
+  bytes-read,
+  packed-read,
   carries-its-file,
   never-both-as-read,
   replies-hold-as-read,
@@ -94,12 +103,14 @@ use Rattle.writer.proofs.laws.OwnCertificate.{
   verdict-refused-exactly,
   certify-refused-exactly,
   room-certifies,
+  own-kind,
   own-bit,
   own-region,
   own-reply,
   own-rank,
   own-attack,
 }
+use Rattle.writer.proofs.laws.Passes.{Accepted, bytes-accepted, packed-accepted}
 use Rattle.capi.specs.Plain.{readAnswer, stepAnswer, certifyAnswer, checkAnswer, printAnswer}
 use Rattle.capi.specs.Stepped.{fileStepped}
 use Rattle.capi.specs.declared.CertifyAnswer.{CertifyAnswer}
@@ -140,9 +151,10 @@ pub checker-refuses-exactly : (file certificate : List ℕ) (a : Checked) (numbe
 checker-refuses-exactly file certificate a number place w =
     (λ e. check-refused-exactly file certificate number place .0 (sym w ∙ e), λ t. w ∙ check-refused-exactly file certificate number place .1 t)
 
-pub writer-refuses-exactly : (file before after : List ℕ) (r : Certified) (number place : ℕ) → CertifiedAs file (circuitIn file) before after r
-    → (certifiedOutcome r ≡ refused number place) ↔ WriterRow file (certificateOf file) (length before) number place
-writer-refuses-exactly file before after r number place w = certify-refused-exactly file before after r number place w
+pub writer-refuses-exactly :
+    (kind : ℕ) (file before after : List ℕ) (r : Certified) (number place : ℕ) → CertifiedAs kind file (circuitIn file) before after r
+    → (certifiedOutcome r ≡ refused number place) ↔ WriterRow file (certificateOf kind file) (length before) number place
+writer-refuses-exactly kind file before after r number place w = certify-refused-exactly kind file before after r number place w
 
 pub printer-refuses-exactly : (file before after : List ℕ) (r : Written) (number place : ℕ)
     → WrittenAs (filePrinted file (length before)) before after r → (writtenOutcome r ≡ refused number place) ↔ WriterRow file printed (length before)
@@ -162,11 +174,11 @@ pub checker-numbered :
 checker-numbered file certificate a number place w e = check-numbered file certificate number place (sym w ∙ e)
 
 pub writer-numbered :
-    (file before after : List ℕ) (r : Certified) (number place : ℕ) → CertifiedAs file (circuitIn file) before after r
+    (kind : ℕ) (file before after : List ℕ) (r : Certified) (number place : ℕ) → CertifiedAs kind file (circuitIn file) before after r
     → certifiedOutcome r ≡ refused number place
     → (1 ≤ number) × ((number ≤ 10) ⊎ (number ≡ 16))
-writer-numbered file before after r number place w e = row-numbered file (certificateOf file) (length before) number place
-    (certify-refused-exactly file before after r number place w .0 e)
+writer-numbered kind file before after r number place w e =
+    row-numbered file (certificateOf kind file) (length before) number place (certify-refused-exactly kind file before after r number place w .0 e)
 
 pub printer-numbered :
     (file before after : List ℕ) (r : Written) (number place : ℕ) → WrittenAs (filePrinted file (length before)) before after r
@@ -183,18 +195,21 @@ pub checker-decided : (file certificate : List ℕ) (a b : Checked) → checkedO
     → checkedOutcome b ≡ answerOf file certificate → a ≡ b
 checker-decided file certificate a b e f = same-outcome-same-answer a b (e ∙ sym f)
 
-pub writer-decided : (file before l m : List ℕ) (r s : Certified) → CertifiedAs file (circuitIn file) before l r
-    → CertifiedAs file (circuitIn file) before m s → (r ≡ s) × (l ≡ m)
-writer-decided file before l m r s v w = certified-decided file (circuitIn file) before l m r s v w
+pub writer-decided :
+    (kind : ℕ) (file before l m : List ℕ) (r s : Certified) → CertifiedAs kind file (circuitIn file) before l r
+    → CertifiedAs kind file (circuitIn file) before m s → (r ≡ s) × (l ≡ m)
+writer-decided kind file before l m r s v w = certified-decided kind file (circuitIn file) before l m r s v w
 
 pub printer-decided : (file before l m : List ℕ) (r s : Written) → WrittenAs (filePrinted file (length before)) before l r
     → WrittenAs (filePrinted file (length before)) before m s → (r ≡ s) × (l ≡ m)
 printer-decided file before l m r s v w = written-decided (filePrinted file (length before)) before l m r s v w
 
 -- "a refusal writes nothing into a lent buffer."
-pub writer-refusal-writes-nothing : (file before after : List ℕ) (r : Certified) (number place : ℕ) → CertifiedAs file (circuitIn file) before after r
+pub writer-refusal-writes-nothing :
+    (kind : ℕ) (file before after : List ℕ) (r : Certified) (number place : ℕ) → CertifiedAs kind file (circuitIn file) before after r
     → certifiedOutcome r ≡ refused number place → after ≡ before
-writer-refusal-writes-nothing file before after r number place w e = refused-certifies-nothing file (circuitIn file) before after r number place w e
+writer-refusal-writes-nothing kind file before after r number place w e =
+    refused-certifies-nothing kind file (circuitIn file) before after r number place w e
 
 pub printer-refusal-writes-nothing : (file before after : List ℕ) (r : Written) (number place : ℕ)
     → WrittenAs (filePrinted file (length before)) before after r → writtenOutcome r ≡ refused number place → after ≡ before
@@ -268,7 +283,8 @@ realizable-only-if c e = realizable-sound (circuitGame c) (circuit-proper c) (is
 
 -- "The region reported is the largest such set." The states of rank 0 in the solver's table are that set. In our own certificate, which is
 -- what stands in the buffer (`certificate-passes`), each bit of the region record is 1 for a state of that set and 0 else, a bit that stands
--- for no state too; and region, replies, ranks and attacks are read as the game's.
+-- for no state too; and region, replies, ranks and attacks are read as the game's. `kind` is that of the reply record that was asked for: 3, or
+-- 5 for packed replies.
 pub region-largest : (c : Circuit) → IsRegion (circuitGame c) (λ s. inRegion (circuitGame c) s ≡ true)
 region-largest c = region-is-largest (circuitGame c) (circuit-proper c)
 
@@ -280,27 +296,58 @@ ranks-reported file c e s h = rank-in-table (circuitGame c) (pow-mono (read-with
 pub ranks-right : (c : Circuit) → AreRanks (circuitGame c) (rank (circuitGame c))
 ranks-right c = ranks-are (circuitGame c) (circuit-proper c)
 
-module _ (file : List ℕ) (c : Circuit) (reads : circuitIn file ≡ taken c) where
-  module _ (region table L U : ℕ) (pass : answerOf file (certificateOf file c) ≡ taken (ofReplies region table L U)) where
-    pub region-bit-reported :
-        (i : ℕ) → i < 8 * regionLength L
-        → byteBit (drop region (certificateOf file c)) i ≡ oneIf (ltb i (2 ^ L) && inRegion (circuitGame c) i)
-    region-bit-reported i h = own-bit file c reads region table L U pass i h
+module _ (kind : ℕ) (accepted : Accepted kind) (file : List ℕ) (c : Circuit) (reads : circuitIn file ≡ taken c) where
+  abbrev own : List ℕ
+  own = certificateOf kind file c
 
-    pub region-reported : (s : ℕ) → s < 2 ^ L → holdsState (drop region (certificateOf file c)) L s ≡ inRegion (circuitGame c) s
-    region-reported s h = own-region file c reads region table L U pass s h
+  module _ (region table read L U C : ℕ) (pass : answerOf file own ≡ taken (ofReplies region table read L U C)) where
+    pub kind-reported : read ≡ kind
+    kind-reported = own-kind kind accepted file c reads region table read L U C pass
+
+    pub region-bit-reported : (i : ℕ) → i < 8 * regionLength L → byteBit (drop region own) i ≡ oneIf (ltb i (2 ^ L) && inRegion (circuitGame c) i)
+    region-bit-reported i h = own-bit kind accepted file c reads region table read L U C pass i h
+
+    pub region-reported : (s : ℕ) → s < 2 ^ L → holdsState (drop region own) L s ≡ inRegion (circuitGame c) s
+    region-reported s h = own-region kind accepted file c reads region table read L U C pass s h
 
     pub reply-reported :
         (s r : ℕ) → s < 2 ^ L → r < 2 ^ U
-        → replyIn (drop region (certificateOf file c)) (drop table (certificateOf file c)) L U s r ≡ reply (circuitGame c) s r
-    reply-reported s r h l = own-reply file c reads region table L U pass s h r l
+        → replyIn (drop region own) L (storedReply read (drop table own) L U C) s r ≡ reply (circuitGame c) s r
+    reply-reported s r h l = own-reply kind accepted file c reads region table read L U C pass s h r l
 
-  module _ (table L U : ℕ) (pass : answerOf file (certificateOf file c) ≡ taken (ofAttacks table L U)) where
-    pub rank-reported : (s : ℕ) → s < 2 ^ L → storedRank (drop table (certificateOf file c)) L s ≡ rank (circuitGame c) s
-    rank-reported s h = own-rank file c reads table L U pass s h
+  module _ (table L U : ℕ) (pass : answerOf file own ≡ taken (ofAttacks table L U)) where
+    pub rank-reported : (s : ℕ) → s < 2 ^ L → storedRank (drop table own) L s ≡ rank (circuitGame c) s
+    rank-reported s h = own-rank kind accepted file c reads table L U pass s h
 
-    pub attack-reported : (s : ℕ) → s < 2 ^ L → storedAttack (drop table (certificateOf file c)) L s ≡ attack (circuitGame c) s
-    attack-reported s h = own-attack file c reads table L U pass s h
+    pub attack-reported : (s : ℕ) → s < 2 ^ L → storedAttack (drop table own) L s ≡ attack (circuitGame c) s
+    attack-reported s h = own-attack kind accepted file c reads table L U pass s h
+
+-- "Every reply read from the packed table equals the one of the byte table, shown once for all C." (02, T-07): of any table of replies below
+-- 2^C; and of our own two certificates of a file, at the starts that their checks answer.
+pub packed-reads-as-bytes :
+    (replies : ℕ → ℕ → ℕ) (L U C : ℕ) → ((s r : ℕ) → s < 2 ^ L → r < 2 ^ U → replies s r < 2 ^ C) → (s r : ℕ)
+    → packedReply (packedReplyBytes replies L U C) L U C s r ≡ byteReply (replyBytes replies L U) L U s r
+packed-reads-as-bytes replies L U C small s r = packed-as-bytes replies L U C small s r
+
+module _ (file : List ℕ) (c : Circuit) (reads : circuitIn file ≡ taken c) (region table kind L U C region₂ table₂ kind₂ L₂ U₂ C₂ : ℕ) where
+  abbrev inBytes : List ℕ
+  inBytes = certificateOf replyKind file c
+
+  abbrev packed : List ℕ
+  packed = certificateOf packedKind file c
+
+  pub own-replies-agree :
+      answerOf file inBytes ≡ taken (ofReplies region table kind L U C) → answerOf file packed ≡ taken (ofReplies region₂ table₂ kind₂ L₂ U₂ C₂)
+      → (s r : ℕ) → s < 2 ^ L → r < 2 ^ U
+      → replyIn (drop region₂ packed) L₂ (storedReply kind₂ (drop table₂ packed) L₂ U₂ C₂) s r
+      ≡ replyIn (drop region inBytes) L (storedReply kind (drop table inBytes) L U C) s r
+  own-replies-agree one other s r h l =
+      let a = replies-took file inBytes c reads region table kind L U C one in
+      let b = replies-took file packed c reads region₂ table₂ kind₂ L₂ U₂ C₂ other in
+      let state = subst (λ (n : ℕ). s < 2 ^ n) (sym (a .latches) ∙ b .latches) h in
+      let reading = subst (λ (n : ℕ). r < 2 ^ n) (sym (a .readings) ∙ b .readings) l in
+      own-reply packedKind packed-accepted file c reads region₂ table₂ kind₂ L₂ U₂ C₂ other s state r reading
+      ∙ sym (own-reply replyKind bytes-accepted file c reads region table kind L U C one s h r l)
 
 -- "A printed circuit reads back as the same circuit." What a printer counted stands at the front of its buffer; whatever is asked of the circuit
 -- that is read there is answered alike (`Alike`).
@@ -324,14 +371,29 @@ pass-carries file certificate starts e = carries-its-file file certificate start
 
 module _ (file certificate : List ℕ) (c : Circuit) (reads : circuitIn file ≡ taken c) where
   -- "Reply table: from reset, for each finite run of readings, a reply is there, the error stays 0, the state stays in the region.": by what
-  -- `region_bit` and `reply` read at the starts that the check answers.
-  module _ (region table L U : ℕ) (pass : answerOf file certificate ≡ taken (ofReplies region table L U)) where
-    pub replies-hold : (rs : List ℕ) → AllBelow (2 ^ U) rs → RepliesHold (circuitGame c) (holdsState (drop region certificate) L)
-        (replyIn (drop region certificate) (drop table certificate) L U) 0 rs
-    replies-hold rs h = replies-hold-as-read file certificate c reads region table L U pass rs h
+  -- `region_bit` and, by the kind that the check answers, `reply` or `packed_reply` read at the starts that it answers.
+  module _ (region table kind L U C : ℕ) (pass : answerOf file certificate ≡ taken (ofReplies region table kind L U C)) where
+    abbrev stored : (state reading : ℕ) → ℕ
+    stored = storedReply kind (drop table certificate) L U C
+
+    pub replies-hold :
+        (rs : List ℕ) → AllBelow (2 ^ U) rs
+        → RepliesHold (circuitGame c) (holdsState (drop region certificate) L) (replyIn (drop region certificate) L stored) 0 rs
+    replies-hold rs h = replies-hold-as-read file certificate c reads region table kind L U C pass rs h
+
+    pub either-kind : (kind ≡ replyKind) ⊎ (kind ≡ packedKind)
+    either-kind = passed-kind file certificate region table kind L U C pass
+
+    pub stored-as-bytes : kind ≡ replyKind → (s r : ℕ) → stored s r ≡ byteReply (drop table certificate) L U s r
+    stored-as-bytes e s r = bytes-read file certificate c reads region table kind L U C pass e s r
+
+    pub stored-as-packed :
+        kind ≡ packedKind → (s r : ℕ)
+        → stored s r ≡ packedReply (drop table certificate) (min L (base .latches)) (min U (base .uncontrollable)) (min C (base .controllable)) s r
+    stored-as-packed e s r = packed-read file certificate c reads region table kind L U C pass e s r
 
     pub replies-realizable : isRealizable c ≡ true
-    replies-realizable = replies-realizable-as-read file certificate c reads region table L U pass
+    replies-realizable = replies-realizable-as-read file certificate c reads region table kind L U C pass
 
   -- "Attack table: whichever controls are chosen, even after seeing the reading, the error is 1 no later than the step given by the rank of
   -- the reset state.": by what `attack` and `rank` read there. Each attack is a reading; a control may be any number, its bits above C aren't
@@ -343,25 +405,30 @@ module _ (file certificate : List ℕ) (c : Circuit) (reads : circuitIn file ≡
     pub attacks-unrealizable : isRealizable c ≡ false
     attacks-unrealizable = attacks-unrealizable-as-read file certificate c reads table L U pass
 
-pub never-both : (file one other : List ℕ) (region table L U table₂ L₂ U₂ : ℕ) → answerOf file one ≡ taken (ofReplies region table L U)
+pub never-both :
+    (file one other : List ℕ) (region table kind L U C table₂ L₂ U₂ : ℕ) → answerOf file one ≡ taken (ofReplies region table kind L U C)
     → answerOf file other ≡ taken (ofAttacks table₂ L₂ U₂) → ⊥
-never-both file one other region table L U table₂ L₂ U₂ e f = never-both-as-read file one other region table L U table₂ L₂ U₂ e f
+never-both file one other region table kind L U C table₂ L₂ U₂ e f =
+    never-both-as-read file one other region table kind L U C table₂ L₂ U₂ e f
 
 -- "Each circuit that is read gets, given the room, a certificate from our own solver, and that one passes." What is counted stands at the
 -- front of the buffer and is the certificate of the definition, so what rule 2 says of `certificateOf` is said of what was written. 49,298
--- bytes are room for each.
+-- bytes are room for each, of either kind.
 pub certificate-passes :
-    (file : List ℕ) (c : Circuit) (before after : List ℕ) (r : Certified) → circuitIn file ≡ taken c
-    → CertifiedAs file (circuitIn file) before after r → length (certificateOf file c) ≤ length before
+    (kind : ℕ) → Accepted kind → (file : List ℕ) (c : Circuit) (before after : List ℕ) (r : Certified) → circuitIn file ≡ taken c
+    → CertifiedAs kind file (circuitIn file) before after r → length (certificateOf kind file c) ≤ length before
     → (v : Verdict) × (starts : Starts) × (certifiedOutcome r ≡ taken v) × (v .realizable ≡ isRealizable c)
-    × (v .count ≡ length (certificateOf file c)) × (take (v .count) after ≡ certificateOf file c)
+    × (v .count ≡ length (certificateOf kind file c)) × (take (v .count) after ≡ certificateOf kind file c)
     × (answerOf file (take (v .count) after) ≡ taken starts)
-certificate-passes file c before after r reads w room =
-    let (v, told, p) = room-certifies file c before after r reads w room in
+certificate-passes kind accepted file c before after r reads w room =
+    let (v, told, p) = room-certifies kind accepted file c before after r reads w room in
     (v, p .starts, told, p .right, p .counted, p .stands, p .passes)
 
-pub room-enough : (file : List ℕ) (c : Circuit) → circuitIn file ≡ taken c → length (certificateOf file c) ≤ 49298
-room-enough file c reads = longest-certificate file c reads
+pub both-kinds : Accepted replyKind × Accepted packedKind
+both-kinds = (bytes-accepted, packed-accepted)
+
+pub room-enough : (kind : ℕ) (file : List ℕ) (c : Circuit) → circuitIn file ≡ taken c → length (certificateOf kind file c) ≤ 49298
+room-enough kind file c reads = longest-certificate kind file c reads
 
 -- FROM OTHER LANGUAGES. What the functions of `capi` answer are plain numbers: 0 says that nothing was refused, and then the rules above
 -- speak of the rest of the answer; any other number is the refusal's, and has with its place its row in the table of numbers.
@@ -384,24 +451,28 @@ module _ (file : List ℕ) where
     unfolding circuitIn
     step-number-refused h = refused-exactly base file (a .number) (a .place) .0 (number-stepped file s r k a is h)
 
-  module _ (before : List ℕ) (a : CertifyAnswer) (is : a ≡ certifyAnswer (verdictFor file (circuitIn file) (length before))) where
+  module _ (kind : ℕ) (accepted : Accepted kind) (before : List ℕ) (a : CertifyAnswer)
+      (is : a ≡ certifyAnswer (verdictFor kind file (circuitIn file) (length before))) where
     pub zero-is-certified :
-        (after : List ℕ) → after ≡ bufferAfter (certificateFor file (circuitIn file) (length before)) before → a .number ≡ 0
+        (after : List ℕ) → after ≡ bufferAfter (certificateFor kind file (circuitIn file) (length before)) before → a .number ≡ 0
         → (c : Circuit) × (starts : Starts) × (circuitIn file ≡ taken c) × (a .realizable ≡ isRealizable c)
-        × (take (a .bytes) after ≡ certificateOf file c) × (answerOf file (take (a .bytes) after) ≡ taken starts)
-    zero-is-certified after written z = zero-certified file before a is after written z
+        × (take (a .bytes) after ≡ certificateOf kind file c) × (answerOf file (take (a .bytes) after) ≡ taken starts)
+    zero-is-certified after written z = zero-certified kind accepted file before a is after written z
 
-    pub certify-number-refused : 1 ≤ a .number → WriterRow file (certificateOf file) (length before) (a .number) (a .place)
-    certify-number-refused h = verdict-refused-exactly file (length before) (a .number) (a .place) .0 (number-certified file before a is h)
+    pub certify-number-refused : 1 ≤ a .number → WriterRow file (certificateOf kind file) (length before) (a .number) (a .place)
+    certify-number-refused h =
+        verdict-refused-exactly kind file (length before) (a .number) (a .place) .0 (number-certified kind accepted file before a is h)
 
   module _ (certificate : List ℕ) (a : CheckAnswer) (is : a ≡ checkAnswer (answerOf file certificate)) where
-    pub zero-passes-replies : a .number ≡ 0 → a .kind ≡ 3 → answerOf file certificate ≡ taken (ofReplies (a .region) (a .table) (a .latches) (a .readings))
+    pub zero-passes-replies :
+        a .number ≡ 0 → (a .kind ≡ 4 → ⊥)
+        → answerOf file certificate ≡ taken (ofReplies (a .region) (a .table) (a .kind) (a .latches) (a .readings) (a .controls))
     zero-passes-replies z k = zero-replies file certificate a is z k
 
     pub zero-passes-attacks : a .number ≡ 0 → a .kind ≡ 4 → answerOf file certificate ≡ taken (ofAttacks (a .table) (a .latches) (a .readings))
     zero-passes-attacks z k = zero-attacks file certificate a is z k
 
-    pub zero-passes-either : a .number ≡ 0 → (a .kind ≡ 3) ⊎ (a .kind ≡ 4)
+    pub zero-passes-either : a .number ≡ 0 → (a .kind ≡ 3) ⊎ ((a .kind ≡ 5) ⊎ (a .kind ≡ 4))
     zero-passes-either z = zero-kind file certificate a is z
 
     pub check-number-refused : 1 ≤ a .number → CheckRow file certificate (a .number) (a .place)

@@ -32,5 +32,5 @@ length-replies replies L U = length-table _ (replyLength L U)
 pub length-attacks : (ranks attacks : ℕ → ℕ) (L : ℕ) → length (attackBytes ranks attacks L) ≡ attackLength L
 unfolding attackBytes attackLength
 length-attacks ranks attacks L =
-    let row : ℕ → List ℕ = λ s. digits 256 2 (ranks s) ++ (attacks s ∷ []) in
-    sym (ap length (rows-in-turn row (2 ^ L))) ∙ length-rows row (length-row ranks attacks) (2 ^ L)
+    sym (ap length (rows-in-turn (λ s. digits 256 2 (ranks s) ++ (attacks s ∷ [])) (2 ^ L)))
+    ∙ length-rows (λ s. digits 256 2 (ranks s) ++ (attacks s ∷ [])) (length-row ranks attacks) (2 ^ L)

@@ -1,15 +1,12 @@
 -- What the tables of a certificate store is read back as it was: the region, the replies, the ranks and the attacks. Assumes nothing.
-use Prim.Native.Nat.{ℕ, _+_, _*_, _/_, _%_, _^_, _<_}
+use Prim.Native.Nat.{ℕ, _+_, _*_, _%_, _^_, _<_}
 use native.Mathlib.Nat.{mod-eq-of-lt}
 use native.Mathlib.Omega.{arith}
 use mathlib.Core.Bool.{Bool, false}
 use mathlib.Core.List.{List, [], _∷_, _++_}
 use mathlib.Core.Path.{_≡_, sym, ap, ap₂, _∙_}
-use lib.Arith.{digits-lt, digits-div, digits-mod}
 use lib.Dec.{eqb}
 use lib.ListN.{getD}
-use lib.Pow.{pow-add}
-use Rattle.below.proofs.laws.Table.{getD-table}
 use Rattle.bits.specs.BitBytes.{bitBytes}
 use Rattle.bits.specs.ByteBit.{byteBit}
 use Rattle.bits.specs.Digits.{digits, sum}
@@ -17,7 +14,8 @@ use Rattle.bits.proofs.laws.BitBytes.{bit-is, no-unused-bit}
 use Rattle.bits.proofs.laws.Digits.{sum-digits}
 use Rattle.records.specs.AttackTable.{attackBytes, storedRank, storedAttack}
 use Rattle.records.specs.RegionBits.{regionBytes, holdsState, unusedBitSet}
-use Rattle.records.specs.ReplyBytes.{replyBytes, replyLength, storedReply}
+use Rattle.records.specs.ReplyBytes.{replyBytes, byteReply}
+use Rattle.records.proofs.laws.ReplyBytes.{byte-reads}
 use Rattle.records.proofs.laws.Rows.{rows-in-turn, length-row, row-at}
 
 module _ (set : ℕ → Bool) (L : ℕ) where
@@ -29,13 +27,8 @@ module _ (set : ℕ → Bool) (L : ℕ) where
   unfolding unusedBitSet regionBytes
   region-unused = no-unused-bit set (2 ^ L)
 
-pub reply-back : (replies : ℕ → ℕ → ℕ) (L U s r : ℕ) → s < 2 ^ L → r < 2 ^ U → storedReply (replyBytes replies L U) L U s r ≡ replies s r
-unfolding storedReply replyBytes replyLength
-reply-back replies L U s r h l =
-    ap₂ (λ (n m : ℕ). getD (replyBytes replies L U) (n * 2 ^ U + m) 0) (mod-eq-of-lt h) (mod-eq-of-lt l)
-    ∙ getD-table (λ i. replies (i / 2 ^ U) (i % 2 ^ U)) (2 ^ (L + U)) (s * 2 ^ U + r) 0
-    (omega (arith, pow-add 2 L U, digits-lt {q = s} {m = 2 ^ L} {r = r} {c = 2 ^ U} h l))
-    ∙ ap₂ replies (digits-div s l) (digits-mod s l)
+pub reply-back : (replies : ℕ → ℕ → ℕ) (L U s r : ℕ) → s < 2 ^ L → r < 2 ^ U → byteReply (replyBytes replies L U) L U s r ≡ replies s r
+reply-back replies L U s r h l = byte-reads L U s r replies ∙ ap₂ replies (mod-eq-of-lt h) (mod-eq-of-lt l)
 
 module _ (ranks attacks : ℕ → ℕ) (L s : ℕ) (state : s < 2 ^ L) where
   row : ℕ → List ℕ
@@ -50,8 +43,8 @@ module _ (ranks attacks : ℕ → ℕ) (L s : ℕ) (state : s < 2 ^ L) where
   pub rank-back : ranks s < 65536 → storedRank (attackBytes ranks attacks L) L s ≡ ranks s
   unfolding storedRank row digits
   rank-back h =
-      ap₂ (λ (a b : ℕ). sum 256 (a ∷ b ∷ []))
-      (ap (λ (n : ℕ). getD (attackBytes ranks attacks L) n 0) (omega arith) ∙ in-table 0 (omega arith)) (in-table 1 (omega arith))
+      ap₂ (λ (a b : ℕ). sum 256 (a ∷ b ∷ [])) (ap (λ (n : ℕ). getD (attackBytes ranks attacks L) n 0) (omega arith) ∙ in-table 0 (omega arith))
+      (in-table 1 (omega arith))
       ∙ sum-digits 256 2 (ranks s) (omega arith)
       ∙ mod-eq-of-lt h
 

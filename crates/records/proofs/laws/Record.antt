@@ -1,6 +1,6 @@
 -- What holds of splitting bytes into a record and the rest: a record is read back as it was written, and whole bytes are a record and the
 -- rest. Assumes nothing.
-use Prim.Native.Nat.{ℕ, _+_, _-_, _^_, _<_, _≤_}
+use Prim.Native.Nat.{ℕ, _+_, _^_, _<_, _≤_}
 use native.Mathlib.Omega.{arith}
 use native.Mathlib.Nat.{mod-eq-of-lt}
 use mathlib.Core.Bool.{Bool, true, false, cond, _&&_}
@@ -14,19 +14,15 @@ use Rattle.bits.specs.Digits.{digits, sum, AllBelow}
 use Rattle.bits.proofs.laws.AllBelow.{all-below-take, all-below-drop}
 use Rattle.bits.proofs.laws.Bytes.{both-true}
 use Rattle.bits.proofs.laws.Digits.{length-digits, sum-digits, digits-sum}
-use Rattle.records.specs.Record.{Split, whole, cut, split, contentsLength, recordOf, headLength}
+use Rattle.records.specs.Record.{whole, cut, split, contentsLength, recordOf, headLength}
 
--- the record that bytes begin with, where head and contents are there
-abbrev there : (bytes : List ℕ) → Bool
-there bytes = leb headLength (length bytes) && leb (headLength + contentsLength bytes) (length bytes)
-
-abbrev pub first : (bytes : List ℕ) → Split
-first bytes =
-    whole (sum 256 (take 2 (drop 4 bytes))) (take (contentsLength bytes) (drop headLength bytes)) (drop (headLength + contentsLength bytes) bytes)
-
-pub split-there : (bytes : List ℕ) → headLength ≤ length bytes → headLength + contentsLength bytes ≤ length bytes → split bytes ≡ first bytes
+-- whole where head and contents are there, else cut short
+pub split-there :
+    (bytes : List ℕ) → headLength ≤ length bytes → headLength + contentsLength bytes ≤ length bytes
+    → split bytes ≡ whole (sum 256 (take 2 (drop 4 bytes))) (take (contentsLength bytes) (drop headLength bytes))
+    (drop (headLength + contentsLength bytes) bytes)
 unfolding split
-split-there bytes head all = rw (le-leb headLength (length bytes) head, le-leb (headLength + contentsLength bytes) (length bytes) all)
+split-there bytes head there = rw (le-leb headLength (length bytes) head, le-leb (headLength + contentsLength bytes) (length bytes) there)
 
 pub split-headless : (bytes : List ℕ) → length bytes < headLength → split bytes ≡ cut
 unfolding split
@@ -36,7 +32,10 @@ pub split-cut : (bytes : List ℕ) → length bytes < headLength + contentsLengt
 unfolding split
 split-cut bytes short = rw (lt-leb (headLength + contentsLength bytes) (length bytes) short) (by (leb headLength (length bytes)))
   where
-    by : (b : Bool) → cond (b && false) (first bytes) cut ≡ cut
+    by :
+        (b : Bool) → cond (b && false)
+        (whole (sum 256 (take 2 (drop 4 bytes))) (take (contentsLength bytes) (drop headLength bytes)) (drop (headLength + contentsLength bytes) bytes)) cut
+        ≡ cut
     by true = refl
     by false = refl
 
@@ -50,15 +49,18 @@ pub record IsWhole (bytes : List ℕ) (kind : ℕ) (contents rest : List ℕ) : 
 
 pub whole-is : (bytes : List ℕ) (kind : ℕ) (contents rest : List ℕ) → split bytes ≡ whole kind contents rest → IsWhole bytes kind contents rest
 unfolding split
-whole-is bytes kind contents rest e = by (there bytes) refl e
+whole-is bytes kind contents rest e = by (leb headLength (length bytes) && leb (headLength + contentsLength bytes) (length bytes)) refl e
   where
-    full : there bytes ≡ true → first bytes ≡ whole kind contents rest → IsWhole bytes kind contents rest
+    full :
+        (leb headLength (length bytes) && leb (headLength + contentsLength bytes) (length bytes)) ≡ true
+        → whole (sum 256 (take 2 (drop 4 bytes))) (take (contentsLength bytes) (drop headLength bytes)) (drop (headLength + contentsLength bytes) bytes)
+        ≡ whole kind contents rest → IsWhole bytes kind contents rest
     full t e =
-        let (head, all) = both-true (leb headLength (length bytes)) (leb (headLength + contentsLength bytes) (length bytes)) t in
-        let fits : headLength + contentsLength bytes ≤ length bytes = leb-true _ _ all in
+        let (head, there) = both-true (leb headLength (length bytes)) (leb (headLength + contentsLength bytes) (length bytes)) t in
+        let fits : headLength + contentsLength bytes ≤ length bytes = leb-true _ _ there in
         let same : contents ≡ take (contentsLength bytes) (drop headLength bytes) = cc in
-        let long : length contents ≡ contentsLength bytes =
-        ap length same ∙ length-take-le (contentsLength bytes) (drop headLength bytes) (omega (arith, length-drop headLength bytes)) in
+        let cut = length-take-le (contentsLength bytes) (drop headLength bytes) (omega (arith, length-drop headLength bytes)) in
+        let long : length contents ≡ contentsLength bytes = ap length same ∙ cut in
         let sorted : kind ≡ sum 256 (take 2 (drop 4 bytes)) = cc in
         let left : rest ≡ drop (headLength + contentsLength bytes) bytes = cc in
         record {
@@ -69,7 +71,10 @@ whole-is bytes kind contents rest e = by (there bytes) refl e
           behind = left ∙ ap (λ (n : ℕ). drop (headLength + n) bytes) (sym long);
         }
 
-    by : (b : Bool) → there bytes ≡ b → cond b (first bytes) cut ≡ whole kind contents rest → IsWhole bytes kind contents rest
+    by :
+        (b : Bool) → (leb headLength (length bytes) && leb (headLength + contentsLength bytes) (length bytes)) ≡ b
+        → cond b (whole (sum 256 (take 2 (drop 4 bytes))) (take (contentsLength bytes) (drop headLength bytes))
+        (drop (headLength + contentsLength bytes) bytes)) cut ≡ whole kind contents rest → IsWhole bytes kind contents rest
     by true t e = full t e
     by false t e = absurd (let z : _≡_ {A = ℕ} 0 1 = cc in omega arith)
 
@@ -104,9 +109,8 @@ laid-splits four two contents rest long short sized =
 
     behind : drop (6 + sum 256 (take 4 (four ++ (two ++ (contents ++ rest))))) (four ++ (two ++ (contents ++ rest))) ≡ rest
     behind =
-        ap (λ (n : ℕ). drop (6 + n) (four ++ (two ++ (contents ++ rest)))) size
-        ∙ sym (drop-drop (length contents) 6 (four ++ (two ++ (contents ++ rest)))) ∙ ap (drop (length contents)) headless
-        ∙ drop-at contents rest (length contents) refl
+        ap (λ (n : ℕ). drop (6 + n) (four ++ (two ++ (contents ++ rest)))) size ∙ sym (drop-drop (length contents) 6 (four ++ (two ++ (contents ++ rest))))
+        ∙ ap (drop (length contents)) headless ∙ drop-at contents rest (length contents) refl
 
 record-laid : (kind : ℕ) (contents rest : List ℕ) → recordOf kind contents ++ rest ≡ digits 256 4 (length contents) ++ (digits 256 2 kind ++ (contents ++ rest))
 unfolding recordOf
@@ -114,8 +118,7 @@ record-laid kind contents rest = simp append-assoc
 
 -- a record is read back as it was written
 pub split-record :
-    (kind : ℕ) (contents rest : List ℕ) → length contents < 2 ^ 32 → kind < 2 ^ 16
-    → split (recordOf kind contents ++ rest) ≡ whole kind contents rest
+    (kind : ℕ) (contents rest : List ℕ) → length contents < 2 ^ 32 → kind < 2 ^ 16 → split (recordOf kind contents ++ rest) ≡ whole kind contents rest
 split-record kind contents rest small sorted =
     ap split (record-laid kind contents rest)
     ∙ laid-splits (digits 256 4 (length contents)) (digits 256 2 kind) contents rest (length-digits 256 4 (length contents)) (length-digits 256 2 kind)

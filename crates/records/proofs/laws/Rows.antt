@@ -35,7 +35,8 @@ module _ (f : ℕ → List ℕ) (three : (s : ℕ) → length (f s) ≡ 3) where
   pub row-at : (n s k : ℕ) → s < n → k < 3 → getD (inTurn f n) (3 * s + k) 0 ≡ getD (f s) k 0
   unfolding inTurn
   row-at zero s k h l = absurd (not-suc-le-zero h)
-  row-at (suc n) s k h l = elim (decLt s n) [ yes a ↦ before a ∙ row-at n s k a l | no a ↦ last (omega arith) ]
+  row-at (suc n) s k h l =
+      elim (decLt s n) [ yes a ↦ before a ∙ row-at n s k a l | no a ↦ last (omega arith) ]
     where
       before : s < n → getD (inTurn f n ++ f n) (3 * s + k) 0 ≡ getD (inTurn f n) (3 * s + k) 0
       before a = List·getD-append (inTurn f n) (f n) 0 (3 * s + k) (omega (arith, length-rows n))

@@ -1,24 +1,22 @@
 -- The shape of a certificate, record by record: what each test of the code decides. Assumes nothing.
 use Prim.Native.Nat.{ℕ, _+_, _-_, _≤_}
+use native.Mathlib.Decide.{ℕ-discrete}
 use native.Mathlib.Omega.{arith}
-use mathlib.Core.Bool.{Bool, true, false, _&&_}
+use mathlib.Core.Bool.{Bool, true, false, _&&_, _||_}
 use mathlib.Core.List.{List}
-use mathlib.Core.Option.{Option, none, some}
-use mathlib.Core.Path.{_≡_, refl, sym, ap, _∙_}
-use borrow.Author.Tests.{eq-eqb, ne-eqb}
+use mathlib.Core.Logic.{_⊎_, inl, inr}
+use mathlib.Core.Option.{none, some}
+use mathlib.Core.Path.{_≡_, refl, sym, _∙_}
+use borrow.Author.Tests.{eqb-true, eq-eqb, ne-eqb}
 use lib.Dec.{eqb}
 use lib.ListN.{length, drop, length-drop}
 use lib.Seq.{length-take-le}
 use Rattle.below.specs.Among.{among, member}
-use Rattle.records.specs.Record.{Split, whole, split, circuitKind, regionKind, replyKind, attackKind, headLength}
-use Rattle.records.specs.RecordAt.{recordAt}
+use Rattle.records.specs.Record.{whole, split, circuitKind, regionKind, replyKind, attackKind, packedKind, headLength}
 use Rattle.records.specs.Shape.{shapeOf}
-use Rattle.records.specs.Tables.{acceptedKinds, Tables, replies, attacks, tablesOf, firstOf, secondOf, thirdOf}
-use Rattle.records.specs.contracts.Behind.{behindCircuit, behindRegion}
-use Rattle.records.specs.contracts.Part.{part, Within}
-use Rattle.records.specs.declared.RecordAt.the-variants.{Cut}
-use Rattle.records.specs.declared.Shape.the-variants.{Replies, Attacks, Other}
-use Rattle.records.proofs.laws.RecordAt.{Found, found-none}
+use Rattle.records.specs.Tables.{acceptedKinds, replies, attacks, firstOf, secondOf, thirdOf}
+use Rattle.records.specs.contracts.Part.{part}
+use Rattle.records.specs.declared.Shape.the-variants.{Replies, Attacks}
 
 pub length-part : (start end : ℕ) (bytes : List ℕ) → end ≤ length bytes → length (part start end bytes) ≡ end - start
 length-part start end bytes h = length-take-le (end - start) (drop start bytes) (omega (arith, length-drop start bytes))
@@ -36,119 +34,83 @@ and-false false = refl
 
 -- the kinds of reply record that are taken
 module _ (kind : ℕ) where
-  taken-kind : kind ≡ replyKind → member kind acceptedKinds ≡ true
+  pub kind-replies : kind ≡ replyKind → true ≡ member kind acceptedKinds
   unfolding member among
-  taken-kind e = rw (eq-eqb kind replyKind e)
+  kind-replies e = sym (rw (eq-eqb kind replyKind e))
 
-  other-kind : (kind ≡ replyKind → ⊥) → member kind acceptedKinds ≡ false
+  pub kind-packed : (kind ≡ replyKind → ⊥) → eqb kind packedKind ≡ member kind acceptedKinds
   unfolding member among
-  other-kind d = rw (ne-eqb kind replyKind d)
+  kind-packed d = sym (rw (ne-eqb kind replyKind d) (or-false (eqb kind packedKind)))
+    where
+      or-false : (b : Bool) → (b || false) ≡ b
+      or-false true = refl
+      or-false false = refl
 
--- behind the region record
-module _ (certificate : List ℕ) (circuit region behind : ℕ) where
-  abbrev third : Split → Option Tables
-  third = thirdOf acceptedKinds (part headLength circuit certificate) (part region behind certificate)
+-- and no other is
+pub kinds-are : (kind : ℕ) → member kind acceptedKinds ≡ true → (kind ≡ replyKind) ⊎ (kind ≡ packedKind)
+kinds-are kind e = elim (ℕ-discrete kind replyKind) [ yes a ↦ inl a | no d ↦ inr (eqb-true kind packedKind (kind-packed kind d ∙ e)) ]
 
-  pub region-cut : Cut ≡ recordAt behind (split (drop behind certificate)) → Other ≡ behindRegion certificate circuit region behind
-  unfolding shapeOf thirdOf
-  region-cut e = sym (ap (λ (s : Split). shapeOf (third s)) (found-none certificate behind e))
+module _ (accepted circuit region bytes : List ℕ) (kind end : ℕ) (table : List ℕ) where
+  pub third-other : member kind accepted ≡ false → thirdOf accepted circuit region (whole kind table (drop end bytes)) ≡ none
+  unfolding thirdOf
+  third-other e = rw e
 
-  module _ (kind start end : ℕ) (there : Found certificate behind kind start end) where
-    third-is : (t : Option Tables) → third (whole kind (part start end certificate) (drop end certificate)) ≡ t
-        → shapeOf t ≡ behindRegion certificate circuit region behind
-    third-is t e = sym (ap (λ (s : Split). shapeOf (third s)) (there .splits) ∙ ap shapeOf e)
+  pub third-more : end ≤ length bytes → (end ≡ length bytes → ⊥) → thirdOf accepted circuit region (whole kind table (drop end bytes)) ≡ none
+  unfolding thirdOf
+  third-more h d = rw (something-follows bytes end h d, and-false (member kind accepted))
 
-    pub region-then-other : (kind ≡ replyKind → ⊥) → Other ≡ behindRegion certificate circuit region behind
-    unfolding shapeOf thirdOf
-    region-then-other d = third-is none (rw (other-kind kind d))
+  pub third-is :
+      member kind accepted ≡ true → end ≡ length bytes
+      → thirdOf accepted circuit region (whole kind table (drop end bytes)) ≡ some (replies circuit region kind table)
+  unfolding thirdOf
+  third-is e f = rw (e, nothing-follows bytes end f)
 
-    pub region-then-more : (end ≡ length certificate → ⊥) → Other ≡ behindRegion certificate circuit region behind
-    unfolding shapeOf thirdOf
-    region-then-more d = third-is none (rw (something-follows certificate end (there .within) d, and-false (member kind acceptedKinds)))
+module _ (accepted circuit bytes : List ℕ) (kind end : ℕ) (table : List ℕ) where
+  pub second-region :
+      kind ≡ regionKind → secondOf accepted circuit (whole kind table (drop end bytes)) ≡ thirdOf accepted circuit table (split (drop end bytes))
+  unfolding secondOf
+  second-region e = rw (eq-eqb kind regionKind e)
 
-    pub region-then-replies :
-        Within certificate headLength circuit → Within certificate region behind → region ≡ circuit + headLength
-        → kind ≡ replyKind → end ≡ length certificate → Replies circuit region behind start end ≡ behindRegion certificate circuit region behind
-    unfolding shapeOf thirdOf
-    region-then-replies first second at e f =
-        let one = length-part headLength circuit certificate (first .inside) in
-        let two = length-part region behind certificate (second .inside) in
-        let three = length-part start end certificate (there .within) in
-        let c : circuit ≡ headLength + length (part headLength circuit certificate) = omega (arith, first) in
-        let r : region ≡ headLength + length (part headLength circuit certificate) + headLength = omega (arith, c, at) in
-        let b : behind ≡ headLength + length (part headLength circuit certificate) + headLength + length (part region behind certificate) =
-        omega (arith, r, second) in
-        let s : start ≡ headLength + length (part headLength circuit certificate) + headLength + length (part region behind certificate) + headLength =
-        omega (arith, b, there .begins) in
-        let t : end ≡ headLength + length (part headLength circuit certificate) + headLength + length (part region behind certificate) + headLength
-        + length (part start end certificate) = omega (arith, s, there .ordered) in
-        (λ i. Replies (c i) (r i) (b i) (s i) (t i))
-        ∙ third-is
-        (some (replies (part headLength circuit certificate) (part region behind certificate) kind (part start end certificate)))
-        (rw (taken-kind kind e, nothing-follows certificate end f))
+  pub second-other : (kind ≡ regionKind → ⊥) → (kind ≡ attackKind → ⊥) → secondOf accepted circuit (whole kind table (drop end bytes)) ≡ none
+  unfolding secondOf
+  second-other d f = rw (ne-eqb kind regionKind d, ne-eqb kind attackKind f)
 
--- behind the circuit record
-module _ (certificate : List ℕ) (circuit : ℕ) where
-  abbrev second : Split → Option Tables
-  second = secondOf acceptedKinds (part headLength circuit certificate)
+  pub second-more :
+      (kind ≡ regionKind → ⊥) → end ≤ length bytes → (end ≡ length bytes → ⊥) → secondOf accepted circuit (whole kind table (drop end bytes)) ≡ none
+  unfolding secondOf
+  second-more d h f = rw (ne-eqb kind regionKind d, something-follows bytes end h f, and-false (eqb kind attackKind))
 
-  pub circuit-cut : Cut ≡ recordAt circuit (split (drop circuit certificate)) → Other ≡ behindCircuit certificate circuit
-  unfolding shapeOf secondOf
-  circuit-cut e = sym (ap (λ (s : Split). shapeOf (second s)) (found-none certificate circuit e))
+  pub second-is :
+      (kind ≡ regionKind → ⊥) → kind ≡ attackKind → end ≡ length bytes
+      → secondOf accepted circuit (whole kind table (drop end bytes)) ≡ some (attacks circuit table)
+  unfolding secondOf
+  second-is d e f = rw (ne-eqb kind regionKind d, eq-eqb kind attackKind e, nothing-follows bytes end f)
 
-  module _ (kind start end : ℕ) (there : Found certificate circuit kind start end) where
-    second-is : (t : Option Tables) → second (whole kind (part start end certificate) (drop end certificate)) ≡ t
-        → shapeOf t ≡ behindCircuit certificate circuit
-    second-is t e = sym (ap (λ (s : Split). shapeOf (second s)) (there .splits) ∙ ap shapeOf e)
+module _ (accepted circuit rest : List ℕ) (kind : ℕ) where
+  pub first-is : kind ≡ circuitKind → firstOf accepted (whole kind circuit rest) ≡ secondOf accepted circuit (split rest)
+  unfolding firstOf
+  first-is e = rw (eq-eqb kind circuitKind e)
 
-    pub circuit-then-region : kind ≡ regionKind → behindRegion certificate circuit start end ≡ behindCircuit certificate circuit
-    unfolding secondOf
-    circuit-then-region e = second-is (third certificate circuit start end (split (drop end certificate))) (rw (eq-eqb kind regionKind e))
+  pub first-other : (kind ≡ circuitKind → ⊥) → firstOf accepted (whole kind circuit rest) ≡ none
+  unfolding firstOf
+  first-other d = rw (ne-eqb kind circuitKind d)
 
-    module _ (d : kind ≡ regionKind → ⊥) where
-      pub circuit-then-other : (kind ≡ attackKind → ⊥) → Other ≡ behindCircuit certificate circuit
-      unfolding shapeOf secondOf
-      circuit-then-other f = second-is none (rw (ne-eqb kind regionKind d, ne-eqb kind attackKind f))
+-- the answers, by the lengths of the parts
+module _ (circuit table : List ℕ) (circuitEnd start end : ℕ) (first : circuitEnd ≡ headLength + length circuit) where
+  pub shape-attacks : start ≡ circuitEnd + headLength → end ≡ start + length table → Attacks circuitEnd start end ≡ shapeOf (some (attacks circuit table))
+  unfolding shapeOf
+  shape-attacks e f =
+      let starts : start ≡ headLength + length circuit + headLength = omega arith in
+      let ends : end ≡ headLength + length circuit + headLength + length table = omega arith in
+      λ i. Attacks (first i) (starts i) (ends i)
 
-      pub circuit-then-more : (end ≡ length certificate → ⊥) → Other ≡ behindCircuit certificate circuit
-      unfolding shapeOf secondOf
-      circuit-then-more f =
-          second-is none
-          (rw (ne-eqb kind regionKind d, something-follows certificate end (there .within) f, and-false (eqb kind attackKind)))
-
-      pub circuit-then-attacks :
-          Within certificate headLength circuit → kind ≡ attackKind → end ≡ length certificate
-          → Attacks circuit start end ≡ behindCircuit certificate circuit
-      unfolding shapeOf secondOf
-      circuit-then-attacks first e f =
-          let one = length-part headLength circuit certificate (first .inside) in
-          let two = length-part start end certificate (there .within) in
-          let c : circuit ≡ headLength + length (part headLength circuit certificate) = omega (arith, first) in
-          let s : start ≡ headLength + length (part headLength circuit certificate) + headLength = omega (arith, c, there .begins) in
-          let t : end ≡ headLength + length (part headLength circuit certificate) + headLength + length (part start end certificate) =
-          omega (arith, s, there .ordered) in
-          (λ i. Attacks (c i) (s i) (t i))
-          ∙ second-is (some (attacks (part headLength circuit certificate) (part start end certificate)))
-          (rw (ne-eqb kind regionKind d, eq-eqb kind attackKind e, nothing-follows certificate end f))
-
--- the first record
-module _ (certificate : List ℕ) where
-  pub certificate-cut : Cut ≡ recordAt 0 (split certificate) → Other ≡ shapeOf (tablesOf acceptedKinds certificate)
-  unfolding shapeOf tablesOf firstOf
-  certificate-cut e = sym (ap (λ (s : Split). shapeOf (firstOf acceptedKinds s)) (found-none certificate 0 e))
-
-  module _ (kind start end : ℕ) (there : Found certificate 0 kind start end) where
-    first-is : (t : Option Tables) → firstOf acceptedKinds (whole kind (part start end certificate) (drop end certificate)) ≡ t
-        → shapeOf t ≡ shapeOf (tablesOf acceptedKinds certificate)
-    unfolding tablesOf
-    first-is t e = sym (ap (λ (s : Split). shapeOf (firstOf acceptedKinds s)) (there .splits) ∙ ap shapeOf e)
-
-    pub first-other : (kind ≡ circuitKind → ⊥) → Other ≡ shapeOf (tablesOf acceptedKinds certificate)
-    unfolding shapeOf firstOf
-    first-other d = first-is none (rw (ne-eqb kind circuitKind d))
-
-    pub first-circuit : kind ≡ circuitKind → behindCircuit certificate end ≡ shapeOf (tablesOf acceptedKinds certificate)
-    unfolding firstOf
-    first-circuit e =
-        ap (λ (n : ℕ). shapeOf (secondOf acceptedKinds (part n end certificate) (split (drop end certificate)))) (sym (there .begins))
-        ∙ first-is (secondOf acceptedKinds (part start end certificate) (split (drop end certificate))) (rw (eq-eqb kind circuitKind e))
+  pub shape-replies :
+      (region : List ℕ) (kind begin behind : ℕ) → begin ≡ circuitEnd + headLength → behind ≡ begin + length region → start ≡ behind + headLength
+      → end ≡ start + length table → Replies circuitEnd begin behind start end kind ≡ shapeOf (some (replies circuit region kind table))
+  unfolding shapeOf
+  shape-replies region kind begin behind a b e f =
+      let begins : begin ≡ headLength + length circuit + headLength = omega arith in
+      let behinds : behind ≡ headLength + length circuit + headLength + length region = omega arith in
+      let starts : start ≡ headLength + length circuit + headLength + length region + headLength = omega arith in
+      let ends : end ≡ headLength + length circuit + headLength + length region + headLength + length table = omega arith in
+      λ i. Replies (first i) (begins i) (behinds i) (starts i) (ends i) kind

@@ -1,5 +1,5 @@
 -- What the tables of a certificate say of its bytes: the records that they were split from, and where each part lies. Assumes nothing.
-use Prim.Native.Nat.{ℕ, _-_}
+use Prim.Native.Nat.{ℕ}
 use native.Mathlib.Omega.{arith}
 use mathlib.Core.Bool.{Bool, true, false, cond, _&&_}
 use mathlib.Core.List.{List}
@@ -23,9 +23,7 @@ pub record Third (accepted circuit region : List ℕ) (s : Split) (t : Tables) :
   pub ends : length rest ≡ 0
   pub gives : t ≡ replies circuit region kind table
 
-third :
-    (accepted circuit region : List ℕ) (s : Split) (t : Tables) → thirdOf accepted circuit region s ≡ some t
-    → Third accepted circuit region s t
+third : (accepted circuit region : List ℕ) (s : Split) (t : Tables) → thirdOf accepted circuit region s ≡ some t → Third accepted circuit region s t
 unfolding thirdOf
 third accepted circuit region cut t e = absurd (let z : _≡_ {A = ℕ} 0 1 = cc in omega arith)
 third accepted circuit region (whole kind table rest) t e = by (member kind accepted && eqb (length rest) 0) refl e
@@ -73,8 +71,12 @@ tables-first accepted certificate t e = by (split certificate) refl e
         (kind : ℕ) (circuit rest : List ℕ) → split certificate ≡ whole kind circuit rest → (b : Bool) → eqb kind circuitKind ≡ b
         → cond b (secondOf accepted circuit (split rest)) none ≡ some t → First accepted certificate t
     kinds kind circuit rest f true g e =
-        let is = f ∙ ap (λ (k : ℕ). whole k circuit rest) (eqb-true _ _ g) in
-        record { circuit = circuit; rest = rest; is = is; behind = second accepted circuit (split rest) t e }
+        record {
+          circuit = circuit;
+          rest = rest;
+          is = f ∙ ap (λ (k : ℕ). whole k circuit rest) (eqb-true _ _ g);
+          behind = second accepted circuit (split rest) t e;
+        }
     kinds kind circuit rest f false g e = absurd (let z : _≡_ {A = ℕ} 0 1 = cc in omega arith)
 
     by : (s : Split) → split certificate ≡ s → firstOf accepted s ≡ some t → First accepted certificate t
@@ -96,3 +98,19 @@ tables-begin accepted certificate t e = by (tables-first accepted certificate t 
 
     by : First accepted certificate t → (rest : List ℕ) × (split certificate ≡ whole circuitKind (circuitPart t) rest)
     by w = (w .rest, inner (w .circuit) (w .rest) (w .is) (w .behind))
+
+-- the reply record is of a kind that is accepted
+pub kind-taken :
+    (accepted certificate circuit region : List ℕ) (kind : ℕ) (table : List ℕ)
+    → tablesOf accepted certificate ≡ some (replies circuit region kind table) → member kind accepted ≡ true
+kind-taken accepted certificate circuit region kind table e = by (tables-first accepted certificate (replies circuit region kind table) e)
+  where
+    inner : (first : List ℕ) (s : Split) → Second accepted first s (replies circuit region kind table) → member kind accepted ≡ true
+    inner first s (withRegion states behind g w) =
+        let gives : replies circuit region kind table ≡ replies first states (w .kind) (w .table) = w .gives in
+        let same : kind ≡ w .kind = cc in
+        ap (λ (k : ℕ). member k accepted) same ∙ w .taken
+    inner first s (withAttacks contents behind g n w) = absurd (let z : _≡_ {A = ℕ} 0 1 = cc in omega arith)
+
+    by : First accepted certificate (replies circuit region kind table) → member kind accepted ≡ true
+    by w = inner (w .circuit) (split (w .rest)) (w .behind)

@@ -2,7 +2,7 @@
 -- Assumes nothing.
 use Rattle.circuit.specs.Limits.{base}
 use Rattle.circuit.specs.Stored.{meant, solvable}
-use Rattle.writer.proofs.laws.Ranked.{few-numbers, all-replies, zero-replied, ranked-attacked}
+use Rattle.writer.proofs.laws.Ranked.{few-numbers, few-controls, all-replies, zero-replied, ranked-attacked}
 use borrow.Author.Needs.{needs}
 use Rattle.writer.proofs.certify_circuit.Statement.{statement}
 use Rattle.writer.proofs.certify_circuit.Tie as tie
@@ -37,7 +37,7 @@ certify-replies-requires c κs = let v = c .before .before .before .before .befo
       few-numbers (n .result .latches) (m .result) (base .latches) (m .ensures) (n .ensures .1 .0),
       (
         few-numbers (n .result .uncontrollable) (r .result) (base .uncontrollable) (r .ensures) (n .ensures .1 .1),
-        all-replies (solvable (meant v)) (s .result) (s .ensures),
+        (few-controls (meant v) (n .result) (n .ensures .0), all-replies (solvable (meant v)) (s .result) (s .ensures)),
       ),
     )
 
@@ -69,11 +69,12 @@ same-length-2 : tie.Need-same-length-2
 same-length-2 c = search needs
 
 returns-2 : tie.Need-returns-2
-returns-2 c = let v = c .before .before .before .before .before .before .before .before .before .before .before .before .before .before .args .c in
+returns-2 c = let a = c .before .before .before .before .before .before .before .before .before .before .before .before .before .before .args in
+    let v = a .c in
     let n = c .before .before .before .before .before .before .before .before .before .before .before .counted in
     let s = c .before .before .before .before .before .before .before .before .before .before .solve in
     let m = c .before .before .before .before .before .before .before .before .numbers in
-    c .before .before .certify-attacks .ensures (solvable (meant v))
+    c .before .before .certify-attacks .ensures (a .kind) (solvable (meant v))
     (ranked-attacked (solvable (meant v)) (s .result) (s .ensures) (n .result) (n .ensures .0) (n .ensures .1 .0) (m .result) (m .ensures)
     (c .before .before .before .before .before .before .before .if1 .left))
 

@@ -32,11 +32,11 @@ same-answer (Refused r) (Refused s) e =
     λ x. Refused (record { number = number x; place = place x })
 
 pub certified-decided :
-    (file : List ℕ) (circuit : Outcome Circuit) (before l m : List ℕ) (r s : Certified) → CertifiedAs file circuit before l r
-    → CertifiedAs file circuit before m s → (r ≡ s) × (l ≡ m)
-certified-decided file circuit before l m r s v w = (same-answer r s (v .answer ∙ sym (w .answer)), v .bytes ∙ sym (w .bytes))
+    (kind : ℕ) (file : List ℕ) (circuit : Outcome Circuit) (before l m : List ℕ) (r s : Certified) → CertifiedAs kind file circuit before l r
+    → CertifiedAs kind file circuit before m s → (r ≡ s) × (l ≡ m)
+certified-decided kind file circuit before l m r s v w = (same-answer r s (v .answer ∙ sym (w .answer)), v .bytes ∙ sym (w .bytes))
 
 -- for the circuit that the file itself says, these are the bytes of the definition
-pub certificate-of-file : (file : List ℕ) (room : ℕ) → certificateFor file (circuitIn file) room ≡ certified file room
+pub certificate-of-file : (kind : ℕ) (file : List ℕ) (room : ℕ) → certificateFor kind file (circuitIn file) room ≡ certified kind file room
 unfolding certificateFor certified
-certificate-of-file file room = refl
+certificate-of-file kind file room = refl

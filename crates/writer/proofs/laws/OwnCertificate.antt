@@ -12,7 +12,7 @@ use lib.Seq.{getD-take}
 use Rattle.bits.specs.Bit.{bit, oneIf}
 use Rattle.bits.specs.ByteBit.{byteBit}
 use Rattle.circuit.specs.Answer.{fitted, bufferAfter}
-use Rattle.circuit.specs.Circuit.{Circuit, latchCount, uncontrollableCount}
+use Rattle.circuit.specs.Circuit.{Circuit, latchCount}
 use Rattle.circuit.specs.Outcome.{Outcome, taken, refused, _>>=_}
 use Rattle.circuit.proofs.laws.Answer.{fitted-taken}
 use Rattle.circuit.proofs.laws.Outcome.{refused-is-not-taken, bind-taken}
@@ -28,18 +28,19 @@ use Rattle.game.proofs.laws.Reply.{reply-outside as no-reply}
 use Rattle.records.specs.AttackTable.{storedRank, storedAttack}
 use Rattle.records.specs.Passed.{replyIn}
 use Rattle.records.specs.RegionBits.{regionLength, holdsState, regionBytes}
-use Rattle.records.specs.ReplyBytes.{storedReply}
+use Rattle.records.specs.ReplyTable.{storedReply}
 use Rattle.records.specs.Tables.{Tables, replies, attacks}
 use Rattle.records.proofs.laws.Lengths.{length-region}
 use Rattle.records.proofs.laws.Passed.{reply-inside, reply-outside}
 use Rattle.bits.proofs.laws.BitBytes.{bit-of-bytes}
 use Rattle.checker.specs.Answer.{Starts, ofReplies, ofAttacks, startsOf, answerOf}
 use Rattle.checker.specs.Check.{checkOf}
+use Rattle.checker.specs.StoredFor.{replyAt}
 use Rattle.checker.proofs.laws.ReadPassed.{RepliesTook, replies-took, bits-are, replies-are, AttacksTook, attacks-took, ranks-are, attacks-are, took-answers}
 use Rattle.writer.specs.declared.Certified.{Certified}
 use Rattle.writer.specs.Answer.{Verdict, certifiedOutcome, certificateFor, verdictFor, CertifiedAs}
 use Rattle.writer.specs.Certificate.{certificateOf}
-use Rattle.writer.proofs.laws.Passes.{ownTables, written-passes, buffer-holds}
+use Rattle.writer.proofs.laws.Passes.{Accepted, ownTables, written-passes, buffer-holds}
 use Rattle.writer.proofs.laws.RulesKept.{ownRegion, ownReplies, ownAttacks, holds-is, stored-is, rank-is, attack-is}
 use Rattle.file.proofs.laws.Within.{read-within}
 
@@ -49,11 +50,13 @@ told c o = o >>= λ bytes. taken (record { realizable = isRealizable c; count = 
 
 -- a refusal writes nothing
 pub refused-certifies-nothing :
-    (file : List ℕ) (circuit : Outcome Circuit) (before after : List ℕ) (r : Certified) (number place : ℕ) → CertifiedAs file circuit before after r
+    (kind : ℕ) (file : List ℕ) (circuit : Outcome Circuit) (before after : List ℕ) (r : Certified) (number place : ℕ)
+    → CertifiedAs kind file circuit before after r
     → certifiedOutcome r ≡ refused number place → after ≡ before
 unfolding certificateFor verdictFor bufferAfter
-refused-certifies-nothing file (refused n p) before after r number place w e = w .bytes
-refused-certifies-nothing file (taken c) before after r number place w e = by (fitted (certificateOf file c) (length before)) (sym e ∙ w .answer) (w .bytes)
+refused-certifies-nothing kind file (refused n p) before after r number place w e = w .bytes
+refused-certifies-nothing kind file (taken c) before after r number place w e =
+    by (fitted (certificateOf kind file c) (length before)) (sym e ∙ w .answer) (w .bytes)
   where
     by : (o : Outcome (List ℕ)) → refused number place ≡ told c o → after ≡ bufferAfter o before → after ≡ before
     by (taken bytes) f g = absurd (refused-is-not-taken number place _ f)
@@ -61,102 +64,116 @@ refused-certifies-nothing file (taken c) before after r number place w e = by (f
 
 -- it is refused exactly with the file's number, or with 10
 pub verdict-refused-exactly :
-    (file : List ℕ) (room number place : ℕ)
-    → (verdictFor file (circuitIn file) room ≡ refused number place) ↔ WriterRow file (certificateOf file) room number place
+    (kind : ℕ) (file : List ℕ) (room number place : ℕ)
+    → (verdictFor kind file (circuitIn file) room ≡ refused number place) ↔ WriterRow file (certificateOf kind file) room number place
 unfolding verdictFor
-verdict-refused-exactly file room number place =
-    let row = no-room-exactly file (certificateOf file) room number place in
+verdict-refused-exactly kind file room number place =
+    let row = no-room-exactly file (certificateOf kind file) room number place in
     (λ e. row .0 (by (circuitIn file) .0 e), λ t. by (circuitIn file) .1 (row .1 t))
   where
-    by : (o : Outcome Circuit) → (verdictFor file o room ≡ refused number place) ↔ ((o >>= λ c. fitted (certificateOf file c) room) ≡ refused number place)
-    by (taken c) = told-refused (fitted (certificateOf file c) room) (λ bytes. record { realizable = isRealizable c; count = length bytes }) number place
+    by :
+        (o : Outcome Circuit)
+        → (verdictFor kind file o room ≡ refused number place) ↔ ((o >>= λ c. fitted (certificateOf kind file c) room) ≡ refused number place)
+    by (taken c) = told-refused (fitted (certificateOf kind file c) room) (λ bytes. record { realizable = isRealizable c; count = length bytes }) number place
     by (refused n p) = (λ e. moved n p number place e, λ e. moved n p number place e)
 
 pub certify-refused-exactly :
-    (file before after : List ℕ) (r : Certified) (number place : ℕ) → CertifiedAs file (circuitIn file) before after r
-    → (certifiedOutcome r ≡ refused number place) ↔ WriterRow file (certificateOf file) (length before) number place
-certify-refused-exactly file before after r number place w =
-    let row = verdict-refused-exactly file (length before) number place in (λ e. row .0 (sym (w .answer) ∙ e), λ t. w .answer ∙ row .1 t)
+    (kind : ℕ) (file before after : List ℕ) (r : Certified) (number place : ℕ) → CertifiedAs kind file (circuitIn file) before after r
+    → (certifiedOutcome r ≡ refused number place) ↔ WriterRow file (certificateOf kind file) (length before) number place
+certify-refused-exactly kind file before after r number place w =
+    let row = verdict-refused-exactly kind file (length before) number place in (λ e. row .0 (sym (w .answer) ∙ e), λ t. w .answer ∙ row .1 t)
 
 -- a certificate that was written, as it is told: its bytes stand at the front of the buffer, and it passes
-pub record Passing (file : List ℕ) (c : Circuit) (after : List ℕ) (v : Verdict) : Type 0 where
+pub record Passing (kind : ℕ) (file : List ℕ) (c : Circuit) (after : List ℕ) (v : Verdict) : Type 0 where
   pub starts : Starts
   pub right : v .realizable ≡ isRealizable c
-  pub counted : v .count ≡ length (certificateOf file c)
-  pub stands : take (v .count) after ≡ certificateOf file c
+  pub counted : v .count ≡ length (certificateOf kind file c)
+  pub stands : take (v .count) after ≡ certificateOf kind file c
   pub passes : answerOf file (take (v .count) after) ≡ taken starts
 
 pub told-passes :
-    (file : List ℕ) (c : Circuit) (before after : List ℕ) (v : Verdict) → circuitIn file ≡ taken c
-    → verdictFor file (circuitIn file) (length before) ≡ taken v
-    → after ≡ bufferAfter (certificateFor file (circuitIn file) (length before)) before
-    → Passing file c after v
-told-passes file c before after v reads told written =
-    let says : verdictFor file (taken c) (length before) ≡ taken v = subst (λ (o : Outcome Circuit). verdictFor file o (length before) ≡ taken v) reads told in
-    let leaves = subst (λ (o : Outcome Circuit). after ≡ bufferAfter (certificateFor file o (length before)) before) reads written in
-    let (verdict, counted, stands) = buffer-holds file c before after v says leaves in
+    (kind : ℕ) → Accepted kind → (file : List ℕ) (c : Circuit) (before after : List ℕ) (v : Verdict) → circuitIn file ≡ taken c
+    → verdictFor kind file (circuitIn file) (length before) ≡ taken v
+    → after ≡ bufferAfter (certificateFor kind file (circuitIn file) (length before)) before
+    → Passing kind file c after v
+told-passes kind accepted file c before after v reads told written =
+    let says : verdictFor kind file (taken c) (length before) ≡ taken v =
+    subst (λ (o : Outcome Circuit). verdictFor kind file o (length before) ≡ taken v) reads told in
+    let leaves : after
+    ≡ bufferAfter (certificateFor kind file (taken c) (length before)) before = subst
+    (λ (o : Outcome Circuit). after ≡ bufferAfter (certificateFor kind file o (length before)) before) reads written in
+    let (verdict, counted, stands) = buffer-holds kind file c before after v says leaves in
     record {
-      starts = startsOf c (ownTables file c);
+      starts = startsOf c (ownTables kind file c);
       right = verdict;
       counted = counted;
       stands = stands;
-      passes = ap (answerOf file) stands ∙ took-answers file (certificateOf file c) c reads (ownTables file c) (written-passes file c reads);
+      passes =
+          ap (answerOf file) stands
+          ∙ took-answers file (certificateOf kind file c) c reads (ownTables kind file c) (written-passes kind accepted file c reads);
     }
 
 -- given the room it is told
 pub room-certifies :
-    (file : List ℕ) (c : Circuit) (before after : List ℕ) (r : Certified) → circuitIn file ≡ taken c
-    → CertifiedAs file (circuitIn file) before after r → length (certificateOf file c) ≤ length before
-    → (v : Verdict) × (certifiedOutcome r ≡ taken v) × Passing file c after v
+    (kind : ℕ) → Accepted kind → (file : List ℕ) (c : Circuit) (before after : List ℕ) (r : Certified) → circuitIn file ≡ taken c
+    → CertifiedAs kind file (circuitIn file) before after r → length (certificateOf kind file c) ≤ length before
+    → (v : Verdict) × (certifiedOutcome r ≡ taken v) × Passing kind file c after v
 unfolding verdictFor
-room-certifies file c before after r reads w room =
-    let v : Verdict = record { realizable = isRealizable c; count = length (certificateOf file c) } in
-    let says : verdictFor file (circuitIn file) (length before) ≡ taken v = ap (λ (o : Outcome Circuit). verdictFor file o (length before)) reads
-    ∙ ap (told c) (fitted-taken (certificateOf file c) (length before) room) in
-    (v, w .answer ∙ says, told-passes file c before after v reads says (w .bytes))
+room-certifies kind accepted file c before after r reads w room =
+    let v : Verdict = record { realizable = isRealizable c; count = length (certificateOf kind file c) } in
+    let says : verdictFor kind file (circuitIn file) (length before) ≡ taken v = ap (λ (o : Outcome Circuit). verdictFor kind file o (length before)) reads
+    ∙ ap (told c) (fitted-taken (certificateOf kind file c) (length before) room) in
+    (v, w .answer ∙ says, told-passes kind accepted file c before after v reads says (w .bytes))
 
 -- a verdict is told of a file that is read only
-pub told-reads : (file : List ℕ) (room : ℕ) (v : Verdict) → verdictFor file (circuitIn file) room ≡ taken v → (c : Circuit) × (circuitIn file ≡ taken c)
+pub told-reads :
+    (kind : ℕ) (file : List ℕ) (room : ℕ) (v : Verdict) → verdictFor kind file (circuitIn file) room ≡ taken v → (c : Circuit) × (circuitIn file ≡ taken c)
 unfolding verdictFor
-told-reads file room v told =
+told-reads kind file room v told =
     let (c, reads, rest) =
     bind-taken (circuitIn file)
-    (λ c. fitted (certificateOf file c) room >>= λ bytes. taken (record { realizable = isRealizable c; count = length bytes })) v told in
+    (λ c. fitted (certificateOf kind file c) room >>= λ bytes. taken (record { realizable = isRealizable c; count = length bytes })) v told in
     (c, reads)
 
-module _ (file : List ℕ) (c : Circuit) (reads : circuitIn file ≡ taken c) where
+module _ (kind : ℕ) (accepted : Accepted kind) (file : List ℕ) (c : Circuit) (reads : circuitIn file ≡ taken c) where
   abbrev own : List ℕ
-  own = certificateOf file c
+  own = certificateOf kind file c
 
   -- the tables that the check took are our own
-  own-taken : (t : Tables) → checkOf file own ≡ taken t → ownTables file c ≡ t
-  own-taken t e = let same : taken (ownTables file c) ≡ taken t = sym (written-passes file c reads) ∙ e in cc
+  own-taken : (t : Tables) → checkOf file own ≡ taken t → ownTables kind file c ≡ t
+  own-taken t e = let same : taken (ownTables kind file c) ≡ taken t = sym (written-passes kind accepted file c reads) ∙ e in cc
 
   replies-own :
-      (circuit states : List ℕ) (kind : ℕ) (bytes : List ℕ) → checkOf file own ≡ taken (replies circuit states kind bytes)
-      → (states ≡ ownRegion c) × (bytes ≡ ownReplies c)
+      (circuit states : List ℕ) (read : ℕ) (bytes : List ℕ) → checkOf file own ≡ taken (replies circuit states read bytes)
+      → (states ≡ ownRegion c) × (read ≡ kind) × (bytes ≡ ownReplies kind c)
   unfolding ownTables
-  replies-own circuit states kind bytes e = by (isRealizable c) refl (own-taken (replies circuit states kind bytes) e)
+  replies-own circuit states read bytes e = by (isRealizable c) refl (own-taken (replies circuit states read bytes) e)
     where
-      by : (b : Bool) → isRealizable c ≡ b → ownTables file c ≡ replies circuit states kind bytes → (states ≡ ownRegion c) × (bytes ≡ ownReplies c)
-      by true f g = (cc, cc)
+      by :
+          (b : Bool) → isRealizable c ≡ b → ownTables kind file c ≡ replies circuit states read bytes
+          → (states ≡ ownRegion c) × (read ≡ kind) × (bytes ≡ ownReplies kind c)
+      by true f g = (cc, cc, cc)
       by false f g = absurd (let z : _≡_ {A = ℕ} 0 1 = cc in omega arith)
 
   attacks-own : (circuit bytes : List ℕ) → checkOf file own ≡ taken (attacks circuit bytes) → bytes ≡ ownAttacks c
   unfolding ownTables
   attacks-own circuit bytes e = by (isRealizable c) refl (own-taken (attacks circuit bytes) e)
     where
-      by : (b : Bool) → isRealizable c ≡ b → ownTables file c ≡ attacks circuit bytes → bytes ≡ ownAttacks c
+      by : (b : Bool) → isRealizable c ≡ b → ownTables kind file c ≡ attacks circuit bytes → bytes ≡ ownAttacks c
       by true f g = absurd (let z : _≡_ {A = ℕ} 0 1 = cc in omega arith)
       by false f g = cc
 
   -- the region and the replies that are read are the game's
-  module _ (region table L U : ℕ) (pass : answerOf file own ≡ taken (ofReplies region table L U)) where
-    abbrev w : RepliesTook file own c reads region table L U
-    w = replies-took file own c reads region table L U pass
+  module _ (region table read L U C : ℕ) (pass : answerOf file own ≡ taken (ofReplies region table read L U C)) where
+    abbrev w : RepliesTook file own c reads region table read L U C
+    w = replies-took file own c reads region table read L U C pass
 
-    are : (w .regionBytes ≡ ownRegion c) × (w .tableBytes ≡ ownReplies c)
-    are = replies-own (w .circuitBytes) (w .regionBytes) (w .kind) (w .tableBytes) (w .checks)
+    are : (w .regionBytes ≡ ownRegion c) × (read ≡ kind) × (w .tableBytes ≡ ownReplies kind c)
+    are = replies-own (w .circuitBytes) (w .regionBytes) read (w .tableBytes) (w .checks)
+
+    -- the kind that was asked for
+    pub own-kind : read ≡ kind
+    own-kind = are .1
 
     -- the region record, byte by byte
     region-bytes : take (regionLength L) (drop region own) ≡ regionBytes (inRegion (circuitGame c)) L
@@ -180,19 +197,24 @@ module _ (file : List ℕ) (c : Circuit) (reads : circuitIn file ≡ taken c) wh
 
       pub own-region : holdsState (drop region own) L s ≡ inRegion (circuitGame c) s
       unfolding circuitGame
-      own-region = sym (bits-are file own c reads region table L U pass s) ∙ ap (λ (l : List ℕ). holdsState l (latchCount c) s) (are .0) ∙ holds-is c s below
+      own-region =
+          sym (bits-are file own c reads region table read L U C pass s)
+          ∙ ap (λ (l : List ℕ). holdsState l (latchCount c) s) (are .0) ∙ holds-is c s below
 
-      pub own-reply : (r : ℕ) → r < 2 ^ U → replyIn (drop region own) (drop table own) L U s r ≡ reply (circuitGame c) s r
+      abbrev stored : (state reading : ℕ) → ℕ
+      stored = storedReply read (drop table own) L U C
+
+      pub own-reply : (r : ℕ) → r < 2 ^ U → replyIn (drop region own) L stored s r ≡ reply (circuitGame c) s r
       unfolding circuitGame
       own-reply r reading = by (inRegion (circuitGame c) s) refl
         where
-          by : (b : Bool) → inRegion (circuitGame c) s ≡ b → replyIn (drop region own) (drop table own) L U s r ≡ reply (circuitGame c) s r
+          by : (b : Bool) → inRegion (circuitGame c) s ≡ b → replyIn (drop region own) L stored s r ≡ reply (circuitGame c) s r
           by true e =
-              reply-inside (drop region own) (drop table own) L U s r (own-region ∙ e)
-              ∙ sym (replies-are file own c reads region table L U pass s r)
-              ∙ ap (λ (l : List ℕ). storedReply l (latchCount c) (uncontrollableCount c) s r) (are .1)
-              ∙ stored-is c s r below (subst (λ (n : ℕ). r < 2 ^ n) (sym (w .readings)) reading)
-          by false e = reply-outside (drop region own) (drop table own) L U s r (own-region ∙ e) ∙ sym (no-reply (circuitGame c) s r e)
+              reply-inside (drop region own) L stored s r (own-region ∙ e)
+              ∙ sym (replies-are file own c reads region table read L U C pass s r)
+              ∙ (λ i. replyAt c (are .1 i) (are .2 i) s r)
+              ∙ stored-is c kind s r below (subst (λ (n : ℕ). r < 2 ^ n) (sym (w .readings)) reading)
+          by false e = reply-outside (drop region own) L stored s r (own-region ∙ e) ∙ sym (no-reply (circuitGame c) s r e)
 
   -- and so are the ranks and the attacks
   module _ (table L U : ℕ) (pass : answerOf file own ≡ taken (ofAttacks table L U)) (s : ℕ) (state : s < 2 ^ L) where

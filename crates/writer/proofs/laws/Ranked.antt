@@ -1,15 +1,18 @@
 -- A circuit's counts and its solution are what the writers of tables go by; and the rank of state 0 is the verdict. Assumes nothing.
 use Prim.Native.Nat.{ℕ, _*_, _^_, _≤_, min}
 use native.Mathlib.Omega.{arith}
+use mathlib.Core.Bool.{Bool, true, false, cond}
 use mathlib.Core.List.{List}
-use mathlib.Core.Path.{_≡_, sym, ap, _∙_}
+use mathlib.Core.Path.{_≡_, refl, sym, ap, _∙_, subst}
 use lib.Dec.{eqb}
 use lib.ListN.{length, getD}
 use lib.Pow.{pow-mono}
 use borrow.Author.Tests.{eq-eqb, ne-eqb}
-use Rattle.circuit.specs.Circuit.{Circuit, latchCount}
+use Rattle.circuit.specs.Circuit.{Circuit, latchCount, uncontrollableCount, controllableCount, tooMany, inputsThat}
 use Rattle.circuit.specs.Limits.{base}
+use Rattle.circuit.specs.Stored.{emptyCircuit, solvable}
 use Rattle.circuit.proofs.laws.Numbers.{numbers-whole}
+use Rattle.circuit.proofs.laws.Solvable.{few-are}
 use Rattle.game.specs.CircuitGame.{circuitGame, isRealizable}
 use Rattle.solver.specs.Counts.{countsOf}
 use Rattle.solver.specs.RankTable.{rankTable}
@@ -23,6 +26,19 @@ use Rattle.region.proofs.laws.Verdict.{realizable-at-zero}
 -- as many numbers as n bits make are few
 pub few-numbers : (n m most : ℕ) → m ≡ 2 ^ min n (base .latches) → n ≤ most → m ≤ 2 ^ most
 few-numbers n m most e h = omega (arith, e, pow-mono {i = min n (base .latches)} {j = most} (omega arith))
+
+-- a circuit that is solved has few controllable inputs
+no-controls : controllableCount emptyCircuit ≡ 0
+unfolding controllableCount inputsThat emptyCircuit
+no-controls = refl
+
+pub few-controls : (c : Circuit) (n : Counts) → n ≡ countsOf (solvable c) → n .controllable ≤ base .controllable
+unfolding countsOf solvable tooMany
+few-controls c n counts = subst (λ (m : Counts). m .controllable ≤ base .controllable) (sym counts) (by (tooMany base c) refl)
+  where
+    by : (b : Bool) → tooMany base c ≡ b → controllableCount (cond b emptyCircuit c) ≤ base .controllable
+    by true e = omega (arith, no-controls)
+    by false e = few-are (uncontrollableCount c) (controllableCount c) e .1
 
 module _ (c : Circuit) (s : Solution) (is : s ≡ solutionOf (circuitGame c)) where
   ranks-are : s .ranks ≡ rankTable (circuitGame c)
@@ -56,13 +72,14 @@ module _ (c : Circuit) (s : Solution) (is : s ≡ solutionOf (circuitGame c)) wh
 
     pub zero-replied :
         (readings : ℕ) → readings ≡ 2 ^ min (n .uncontrollable) (base .latches) → n .uncontrollable ≤ base .uncontrollable → getD (s .ranks) 0 0 ≡ 0
-        → Replied c states readings (s .ranks) (s .replies)
+        → Replied c states readings (n .controllable) (s .ranks) (s .replies)
     unfolding countsOf
     zero-replied readings r narrow e =
         record {
           solved = is-solved;
           few = few-numbers (n .uncontrollable) readings (base .uncontrollable) r narrow;
           readingsAre = r ∙ numbers-whole (n .uncontrollable) (omega (arith, narrow)) ∙ ap (λ (m : Counts). 2 ^ m .uncontrollable) counts;
+          controlsAre = ap (λ (m : Counts). m .controllable) counts;
           repliesAre = replies-are;
           verdict = sym at-zero ∙ eq-eqb (getD (s .ranks) 0 0) 0 e;
         }

@@ -1,8 +1,8 @@
 -- The tables of our own certificates break no rule of the check: sizes, reset and steps, of replies where the circuit is realizable, of
 -- attacks where it isn't (01, "The numbers", 13 to 15). Assumes nothing.
-use Prim.Native.Nat.{ℕ, _*_, _-_, _/_, _%_, _<_, _≤_}
+use Prim.Native.Nat.{ℕ, _*_, _-_, _/_, _%_, _^_, _<_, _≤_}
 use native.Mathlib.Decide.{decLt}
-use native.Mathlib.Nat.{div-lt-iff-lt-mul, mod-lt}
+use native.Mathlib.Nat.{div-lt-iff-lt-mul, mod-lt, mod-eq-of-lt}
 use native.Mathlib.Omega.{arith}
 use mathlib.Core.Bool.{Bool, true, false, not, _&&_, _||_}
 use mathlib.Core.List.{List}
@@ -11,7 +11,7 @@ use lib.Dec.{eqb, ltb}
 use lib.Pow.{pow-pos, pow-mono}
 use borrow.Author.Tests.{lt-ltb, le-ltb, eq-eqb, ne-eqb}
 use Rattle.below.proofs.laws.Least.{least-none, none-any, every-same}
-use Rattle.circuit.specs.Circuit.{Circuit, latchCount, uncontrollableCount}
+use Rattle.circuit.specs.Circuit.{Circuit, latchCount, uncontrollableCount, controllableCount}
 use Rattle.circuit.specs.Limits.{base}
 use Rattle.circuit.specs.Reset.{isReset}
 use Rattle.game.specs.Attack.{attack, attackBroken}
@@ -24,23 +24,25 @@ use Rattle.game.specs.Verdict.{realizable}
 use Rattle.game.proofs.laws.Attack.{attacks-unbroken}
 use Rattle.game.proofs.laws.CircuitGame.{circuit-proper}
 use Rattle.game.proofs.laws.Rank.{rank-at-most}
-use Rattle.game.proofs.laws.Reply.{reply-unbroken, reply-is-control, reply-keeps}
+use Rattle.game.proofs.laws.Reply.{reply-unbroken, reply-is-control, reply-keeps, reply-outside as no-reply}
 use Rattle.game.proofs.laws.Verdict.{reset-in-region}
 use Rattle.records.specs.AttackTable.{attackBytes, storedRank, storedAttack}
-use Rattle.records.specs.RegionBits.{regionBytes, holdsState}
-use Rattle.records.specs.ReplyBytes.{replyBytes, storedReply}
-use Rattle.records.proofs.laws.Lengths.{length-region, length-replies, length-attacks}
-use Rattle.records.proofs.laws.ReadBack.{region-holds, region-unused, reply-back, rank-back, attack-back}
+use Rattle.records.specs.RegionBits.{regionBytes}
+use Rattle.records.specs.ReplyTable.{tableBytes}
+use Rattle.records.proofs.laws.Lengths.{length-region, length-attacks}
+use Rattle.records.proofs.laws.ReadBack.{region-holds, region-unused, rank-back, attack-back}
+use Rattle.records.proofs.laws.ReplyTable.{table-reads, length-table-bytes, table-unused}
 use Rattle.solver.proofs.laws.RankTable.{ranked-same, defeats-same}
-use Rattle.checker.specs.Rules.{badReplyTables, badAttackTable, resetOutside, resetUnranked, brokenReply, brokenAttack}
+use Rattle.checker.specs.Rules.{badReplyTables, badAttackTable, resetOutside, resetUnranked, brokenReply, someReplyBroken, brokenAttack}
+use Rattle.checker.specs.StoredFor.{heldAt, replyAt}
 use Rattle.checker.proofs.laws.Pass.{RepliesPass, AttacksPass}
 
 -- the tables that are written
 unfoldable pub ownRegion : Circuit → List ℕ
 ownRegion c = regionBytes (inRegion (circuitGame c)) (latchCount c)
 
-unfoldable pub ownReplies : Circuit → List ℕ
-ownReplies c = replyBytes (reply (circuitGame c)) (latchCount c) (uncontrollableCount c)
+unfoldable pub ownReplies : (kind : ℕ) → Circuit → List ℕ
+ownReplies kind c = tableBytes kind (reply (circuitGame c)) (latchCount c) (uncontrollableCount c) (controllableCount c)
 
 unfoldable pub ownAttacks : Circuit → List ℕ
 ownAttacks c = attackBytes (rank (circuitGame c)) (attack (circuitGame c)) (latchCount c)
@@ -57,79 +59,86 @@ both-not true b h = ap not (h refl)
 both-not false b h = refl
 
 module _ (c : Circuit) where
-  pub holds-is : (s : ℕ) → s < circuitGame c .states → holdsState (ownRegion c) (latchCount c) s ≡ inRegion (circuitGame c) s
+  pub holds-is : (s : ℕ) → s < circuitGame c .states → heldAt c (ownRegion c) s ≡ inRegion (circuitGame c) s
   unfolding ownRegion circuitGame
   holds-is s h = region-holds (inRegion (circuitGame c)) (latchCount c) s h
 
-  pub stored-is :
-      (s r : ℕ) → s < circuitGame c .states → r < circuitGame c .readings
-      → storedReply (ownReplies c) (latchCount c) (uncontrollableCount c) s r ≡ reply (circuitGame c) s r
-  unfolding ownReplies circuitGame
-  stored-is s r h l = reply-back (reply (circuitGame c)) (latchCount c) (uncontrollableCount c) s r h l
-
-  replies-sized : badReplyTables c (ownRegion c) (ownReplies c) ≡ false
-  unfolding badReplyTables ownRegion ownReplies
-  replies-sized =
-      rw (
-        eq-eqb _ _ (length-region (inRegion (circuitGame c)) (latchCount c)),
-        eq-eqb _ _ (length-replies (reply (circuitGame c)) (latchCount c) (uncontrollableCount c)),
-        region-unused (inRegion (circuitGame c)) (latchCount c),
-      )
+  -- a reply has C bits: inside the region it is a control, outside it is 0
+  pub reply-small : (s r : ℕ) → s < 2 ^ latchCount c → r < 2 ^ uncontrollableCount c → reply (circuitGame c) s r < 2 ^ controllableCount c
+  unfolding circuitGame
+  reply-small s r h l = by (inRegion (circuitGame c) s) refl
+    where
+      by : (b : Bool) → inRegion (circuitGame c) s ≡ b → reply (circuitGame c) s r < 2 ^ controllableCount c
+      by true e = reply-is-control (circuitGame c) (circuit-proper c) s r h l e
+      by false e = subst (λ (k : ℕ). k < 2 ^ controllableCount c) (sym (no-reply (circuitGame c) s r e)) (pow-pos (controllableCount c))
 
   replies-reset : isRealizable c ≡ true → resetOutside c (ownRegion c) ≡ false
   unfolding resetOutside isRealizable
   replies-reset e =
-      none-any (λ s. isReset c s && not (holdsState (ownRegion c) (latchCount c) s)) (circuitGame c .states)
-      (λ s h.
-      both-not (isReset c s) (holdsState (ownRegion c) (latchCount c) s) (λ r. holds-is s h ∙ reset-in-region (circuitGame c) (isReset c) e s h r))
-
-  unbroken :
-      (s r : ℕ) → s < circuitGame c .states → r < circuitGame c .readings
-      → replyBroken (circuitGame c) (holdsState (ownRegion c) (latchCount c)) (storedReply (ownReplies c) (latchCount c) (uncontrollableCount c)) s r
-      ≡ false
-  unfolding Keeps
-  unbroken s r h l =
-      reply-unbroken g (holdsState (ownRegion c) (latchCount c)) (storedReply (ownReplies c) (latchCount c) (uncontrollableCount c)) s r
-      (λ e. fine (sym (holds-is s h) ∙ e))
-    where
-      g : Game
-      g = circuitGame c
-
-      fine :
-          inRegion (circuitGame c) s ≡ true
-          → (storedReply (ownReplies c) (latchCount c) (uncontrollableCount c) s r < circuitGame c .controls)
-          × Keeps (circuitGame c) (λ t. holdsState (ownRegion c) (latchCount c) t ≡ true) s r
-          (storedReply (ownReplies c) (latchCount c) (uncontrollableCount c) s r)
-      fine inside =
-          let (quiet, next) = reply-keeps (circuitGame c) (circuit-proper c) s r h l inside in
-          subst (λ (k : ℕ). (k < circuitGame c .controls) × Keeps (circuitGame c) (λ t. holdsState (ownRegion c) (latchCount c) t ≡ true) s r k)
-          (sym (stored-is s r h l))
-          (reply-is-control (circuitGame c) (circuit-proper c) s r h l inside, (quiet, holds-is _ (circuit-proper c .leads s r _) ∙ next))
+      none-any (λ s. isReset c s && not (heldAt c (ownRegion c) s)) (circuitGame c .states)
+      (λ s h. both-not (isReset c s) (heldAt c (ownRegion c) s) (λ r. holds-is s h ∙ reset-in-region (circuitGame c) (isReset c) e s h r))
 
   some-reading : 0 < circuitGame c .readings
   unfolding circuitGame
   some-reading = pow-pos (uncontrollableCount c)
 
-  replies-rule : ltb (brokenReply c (ownRegion c) (ownReplies c)) (circuitGame c .states * circuitGame c .readings) ≡ false
-  unfolding brokenReply
-  replies-rule =
-      le-ltb (brokenReply c (ownRegion c) (ownReplies c)) (circuitGame c .states * circuitGame c .readings)
-      (omega (
-        arith,
-        least-none broken (circuitGame c .states * circuitGame c .readings)
-            (λ i h.
-            unbroken (i / circuitGame c .readings) (i % circuitGame c .readings)
-            (div-lt-iff-lt-mul {k = circuitGame c .readings} {x = i} {y = circuitGame c .states} some-reading .1 h)
-            (mod-lt i {m = circuitGame c .readings} some-reading)),
-      ))
-    where
-      broken : ℕ → Bool
-      broken i =
-          replyBroken (circuitGame c) (holdsState (ownRegion c) (latchCount c)) (storedReply (ownReplies c) (latchCount c) (uncontrollableCount c))
-          (i / circuitGame c .readings) (i % circuitGame c .readings)
+  -- of either kind
+  module _ (kind : ℕ) where
+    abbrev ownReply : (state reading : ℕ) → ℕ
+    ownReply = replyAt c kind (ownReplies kind c)
 
-  pub replies-pass : isRealizable c ≡ true → RepliesPass c (ownRegion c) (ownReplies c)
-  replies-pass e = record { sized = replies-sized; reset = replies-reset e; rule = replies-rule }
+    pub stored-is : (s r : ℕ) → s < circuitGame c .states → r < circuitGame c .readings → ownReply s r ≡ reply (circuitGame c) s r
+    unfolding ownReplies circuitGame
+    stored-is s r h l =
+        table-reads kind (reply (circuitGame c)) (latchCount c) (uncontrollableCount c) (controllableCount c) reply-small s r
+        ∙ ap₂ (reply (circuitGame c)) (mod-eq-of-lt h) (mod-eq-of-lt l)
+
+    replies-sized : badReplyTables c (ownRegion c) kind (ownReplies kind c) ≡ false
+    unfolding badReplyTables ownRegion ownReplies
+    replies-sized =
+        rw (
+          eq-eqb _ _ (length-region (inRegion (circuitGame c)) (latchCount c)),
+          region-unused (inRegion (circuitGame c)) (latchCount c),
+          eq-eqb _ _ (length-table-bytes kind (reply (circuitGame c)) (latchCount c) (uncontrollableCount c) (controllableCount c)),
+          table-unused kind (reply (circuitGame c)) (latchCount c) (uncontrollableCount c) (controllableCount c),
+        )
+
+    unbroken :
+        (s r : ℕ) → s < circuitGame c .states → r < circuitGame c .readings
+        → replyBroken (circuitGame c) (heldAt c (ownRegion c)) ownReply s r ≡ false
+    unfolding Keeps
+    unbroken s r h l = reply-unbroken g (heldAt c (ownRegion c)) ownReply s r (λ e. fine (sym (holds-is s h) ∙ e))
+      where
+        g : Game
+        g = circuitGame c
+
+        fine :
+            inRegion (circuitGame c) s ≡ true
+            → (ownReply s r < circuitGame c .controls) × Keeps (circuitGame c) (λ t. heldAt c (ownRegion c) t ≡ true) s r (ownReply s r)
+        fine inside =
+            let (quiet, next) = reply-keeps (circuitGame c) (circuit-proper c) s r h l inside in
+            subst (λ (k : ℕ). (k < circuitGame c .controls) × Keeps (circuitGame c) (λ t. heldAt c (ownRegion c) t ≡ true) s r k)
+            (sym (stored-is s r h l))
+            (reply-is-control (circuitGame c) (circuit-proper c) s r h l inside, (quiet, holds-is _ (circuit-proper c .leads s r _) ∙ next))
+
+    replies-rule : someReplyBroken c (ownRegion c) kind (ownReplies kind c) ≡ false
+    unfolding brokenReply
+    replies-rule =
+        le-ltb (brokenReply c (ownRegion c) kind (ownReplies kind c)) (circuitGame c .states * circuitGame c .readings)
+        (omega (
+          arith,
+          least-none broken (circuitGame c .states * circuitGame c .readings)
+              (λ i h.
+              unbroken (i / circuitGame c .readings) (i % circuitGame c .readings)
+              (div-lt-iff-lt-mul {k = circuitGame c .readings} {x = i} {y = circuitGame c .states} some-reading .1 h)
+              (mod-lt i {m = circuitGame c .readings} some-reading)),
+        ))
+      where
+        broken : ℕ → Bool
+        broken i = replyBroken (circuitGame c) (heldAt c (ownRegion c)) ownReply (i / circuitGame c .readings) (i % circuitGame c .readings)
+
+    pub replies-pass : isRealizable c ≡ true → RepliesPass c (ownRegion c) kind (ownReplies kind c)
+    replies-pass e = record { sized = replies-sized; reset = replies-reset e; rule = replies-rule }
 
 module _ (c : Circuit) (few : latchCount c ≤ base .latches) where
   small : (s : ℕ) → rank (circuitGame c) s < 65536

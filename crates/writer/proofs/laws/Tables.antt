@@ -2,15 +2,19 @@
 -- ranks with the attacks. Assumes nothing.
 use Prim.Native.Nat.{ℕ, _+_, _*_, _/_, _%_, _^_, _<_, _≤_}
 use native.Mathlib.Nat.{mul-le-mul}
+use native.Mathlib.Decide.{decLt}
 use native.Mathlib.Omega.{arith}
-use mathlib.Core.Bool.{not}
+use mathlib.Core.Bool.{Bool, not, _&&_}
 use mathlib.Core.List.{List, [], _∷_, _++_, flatMap}
 use mathlib.Core.Path.{_≡_, sym, ap, ap₂, _∙_}
 use lib.Dec.{ltb}
 use lib.ListN.{getD, take}
 use lib.Pow.{pow-add}
+use borrow.Author.Tests.{le-ltb}
 use Rattle.below.specs.Table.{table}
-use Rattle.bits.specs.Digits.{digits}
+use Rattle.below.proofs.laws.Table.{table-same}
+use Rattle.bits.specs.Bit.{oneIf}
+use Rattle.bits.specs.Digits.{digits, sum}
 use Rattle.bits.specs.InTurn.{inTurn}
 use Rattle.bits.proofs.laws.InTurn.{in-turn-same}
 use Rattle.circuit.specs.Circuit.{Circuit, latchCount, uncontrollableCount}
@@ -50,10 +54,10 @@ module _ (c : Circuit) (states : ℕ) (ranks : List ℕ) (solved : Solved c stat
   region-written = bit-bytes-same (rankZero ranks) (inRegion (circuitGame c)) states zero-is ∙ ap (bitBytes (inRegion (circuitGame c))) (solved .statesAre)
 
 pub replies-written :
-    (c : Circuit) (states readings : ℕ) (ranks replies : List ℕ) → Replied c states readings ranks replies
+    (c : Circuit) (states readings controls : ℕ) (ranks replies : List ℕ) → Replied c states readings controls ranks replies
     → take (states * readings) replies ≡ replyBytes (reply (circuitGame c)) (latchCount c) (uncontrollableCount c)
 unfolding replyBytes replyLength circuitGame
-replies-written c states readings ranks replies replied =
+replies-written c states readings controls ranks replies replied =
     (λ x. take (replied .solved .statesAre x * replied .readingsAre x) (replied .repliesAre x))
     ∙ replies-front (circuitGame c)
     (mul-le-mul {n₂ = 2 ^ base .latches} {m₂ = 2 ^ base .uncontrollable} (omega (arith, replied .solved .few, replied .solved .statesAre))

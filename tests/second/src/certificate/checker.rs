@@ -1,9 +1,9 @@
 //! Document 01, "The certificate": "A certificate passes exactly if no number
 //! below applies", with the numbers 1 to 9 of its circuit file first and then
-//! 11 to 15 of "The numbers".
+//! 11 to 15 of "The numbers"; document 02, T-07: kind 5 in place of kind 3.
 
-use super::records::{split, Record, ATTACKS, CIRCUIT, REGION, REPLIES};
-use super::view::{Attacks, Replies};
+use super::records::{split, Record, ATTACKS, CIRCUIT, PACKED, REGION, REPLIES};
+use super::view::{Attacks, Form, Replies};
 use crate::circuit::Circuit;
 use crate::reader::read;
 use crate::refusal::{refusal, Refusal};
@@ -30,7 +30,7 @@ pub fn check<'b>(file: &[u8], bytes: &'b [u8]) -> Result<Passed<'b>, Refusal> {
     let records = split(bytes).ok_or(refusal(11, 0))?;
     let kinds: Vec<u16> = records.iter().map(|record| record.kind).collect();
     let tables = match kinds[..] {
-        [CIRCUIT, REGION, REPLIES] => {
+        [CIRCUIT, REGION, REPLIES | PACKED] => {
             same_circuit(file, &records[0])?;
             Tables::Replies(replies(&circuit, bytes, &records[1], &records[2])?)
         }
@@ -65,15 +65,14 @@ fn replies<'b>(
     let u = circuit.uncontrollable_count();
     let (states, readings) = (1usize << l, 1usize << u);
 
-    let lengths_right =
-        region.contents.len() == states.div_ceil(8) && replies.contents.len() == states * readings;
-    if !lengths_right || unused_bit(region.contents, states) {
+    if region.contents.len() != states.div_ceil(8) || unused_bit(region.contents, states) {
         return Err(refusal(13, 0));
     }
     let view = Replies {
         bytes,
         region: region.start,
         replies: replies.start,
+        form: form(circuit, replies, states * readings).ok_or(refusal(13, 0))?,
     };
     if !view.region_bit(l, 0) {
         return Err(refusal(14, 0));
@@ -89,9 +88,26 @@ fn replies<'b>(
     Ok(view)
 }
 
-/// A bit of the region record that stands for no state is 1.
-fn unused_bit(region: &[u8], states: usize) -> bool {
-    (states..8 * region.len()).any(|bit| region[bit / 8] >> (bit % 8) & 1 == 1)
+/// How the replies stand, if there are as many bytes as that wants.
+fn form(circuit: &Circuit, record: &Record, replies: usize) -> Option<Form> {
+    let width = circuit.controllable_count();
+    let (form, right) = match record.kind {
+        PACKED => {
+            let bits = width * replies;
+            let long = record.contents.len() == bits.div_ceil(8);
+            (
+                Form::Packed(width),
+                long && !unused_bit(record.contents, bits),
+            )
+        }
+        _ => (Form::Bytes, record.contents.len() == replies),
+    };
+    right.then_some(form)
+}
+
+/// A bit behind the first so many, which stands for nothing, is 1.
+fn unused_bit(bytes: &[u8], used: usize) -> bool {
+    (used..8 * bytes.len()).any(|bit| bytes[bit / 8] >> (bit % 8) & 1 == 1)
 }
 
 /// "The stored reply is below 2^C, gives error 0 and leads into the stored

@@ -6,6 +6,7 @@ pub const CIRCUIT: u16 = 1;
 pub const REGION: u16 = 2;
 pub const REPLIES: u16 = 3;
 pub const ATTACKS: u16 = 4;
+pub const PACKED: u16 = 5;
 
 /// Bytes of length and kind together.
 const HEAD: usize = 6;

@@ -2,6 +2,16 @@
 //! a view of it: the lent certificate bytes with the starts of its region and
 //! replies." The counts L and U are told at each call; bits of state and
 //! reading above them aren't read, and bytes that aren't there count as 0.
+//! Document 02, T-07: replies are bytes or packed.
+
+use super::packing::unpack;
+
+/// How replies stand: a byte each, or so many bits each.
+#[derive(Clone, Copy, Debug)]
+pub enum Form {
+    Bytes,
+    Packed(usize),
+}
 
 /// A view of a reply certificate.
 #[derive(Clone, Copy, Debug)]
@@ -9,6 +19,7 @@ pub struct Replies<'b> {
     pub bytes: &'b [u8],
     pub region: usize,
     pub replies: usize,
+    pub form: Form,
 }
 
 impl Replies<'_> {
@@ -22,13 +33,27 @@ impl Replies<'_> {
         if !self.region_bit(latches, state) {
             return 0;
         }
+        self.stored(latches, uncontrollable, state, reading)
+    }
+
+    /// What is stored, whether anybody reads it or not.
+    pub fn stored(
+        &self,
+        latches: usize,
+        uncontrollable: usize,
+        state: usize,
+        reading: usize,
+    ) -> u8 {
         let state = low_bits(state, latches);
         let reading = low_bits(reading, uncontrollable);
-        byte(
-            self.bytes,
-            self.replies,
-            index(state, uncontrollable, reading),
-        )
+        let index = index(state, uncontrollable, reading);
+        match self.form {
+            Form::Bytes => byte(self.bytes, self.replies, index),
+            Form::Packed(width) => {
+                let table = self.bytes.get(self.replies..).unwrap_or(&[]);
+                index.map_or(0, |index| unpack(table, width, index))
+            }
+        }
     }
 }
 

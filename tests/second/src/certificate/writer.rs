@@ -1,7 +1,9 @@
 //! Document 01, "The certificate": kinds 1, 2, 3 for a realizable circuit,
-//! kinds 1, 4 for an unrealizable one.
+//! kinds 1, 4 for an unrealizable one; document 02, T-07: kind 5 in place of
+//! kind 3.
 
-use super::records::{append, ATTACKS, CIRCUIT, REGION, REPLIES};
+use super::packing::pack;
+use super::records::{append, ATTACKS, CIRCUIT, PACKED, REGION, REPLIES};
 use crate::game::{solve, Game};
 use crate::reader::read;
 use crate::refusal::{refusal, Refusal};
@@ -18,11 +20,20 @@ pub fn write(file: &[u8], buffer: &mut [u8]) -> Result<usize, Refusal> {
 
 /// The bytes of the certificate of a solved circuit file.
 pub fn certificate(file: &[u8], game: &Game) -> Vec<u8> {
+    with_replies(file, game, REPLIES, &replies(game))
+}
+
+/// The same, its replies packed.
+pub fn packed_certificate(file: &[u8], game: &Game) -> Vec<u8> {
+    with_replies(file, game, PACKED, &pack(&replies(game), game.controllable))
+}
+
+fn with_replies(file: &[u8], game: &Game, kind: u16, replies: &[u8]) -> Vec<u8> {
     let mut bytes = Vec::new();
     append(&mut bytes, CIRCUIT, file);
     if game.realizable() {
         append(&mut bytes, REGION, &region(game));
-        append(&mut bytes, REPLIES, &replies(game));
+        append(&mut bytes, kind, replies);
     } else {
         append(&mut bytes, ATTACKS, &attacks(game));
     }

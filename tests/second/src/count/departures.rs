@@ -3,15 +3,17 @@
 //! the one that the writer writes for the same file.
 
 use crate::certificate::checker::{Passed, Tables};
-use crate::certificate::view::{Attacks, Replies};
+use crate::certificate::view::{Attacks, Form, Replies};
 use crate::game::Game;
 
-pub const NAMES: [&str; 5] = [
+pub const NAMES: [&str; 7] = [
     "a smaller region",
     "another reply or attack",
     "a larger rank",
     "a rank above 2^L",
     "a byte that isn't read",
+    "packed replies",
+    "packed bits that aren't read",
 ];
 
 /// Which of these holds of a certificate that passes.
@@ -29,12 +31,21 @@ fn of_replies(game: &Game, view: &Replies, l: usize, u: usize) -> [bool; NAMES.l
         let within = view.region_bit(l, state);
         smaller |= game.in_region(state) && !within;
         for reading in 0..1usize << u {
-            let stored = view.bytes[view.replies + (state << u) + reading];
+            let stored = view.stored(l, u, state, reading);
             another |= within && usize::from(stored) != game.replies[(state << u) + reading];
             unread |= !within && stored != 0;
         }
     }
-    [smaller, another, false, false, unread]
+    let packed = matches!(view.form, Form::Packed(_));
+    [
+        smaller,
+        another,
+        false,
+        false,
+        unread && !packed,
+        packed,
+        unread && packed,
+    ]
 }
 
 fn of_attacks(game: &Game, view: &Attacks, l: usize) -> [bool; NAMES.len()] {
@@ -47,5 +58,5 @@ fn of_attacks(game: &Game, view: &Attacks, l: usize) -> [bool; NAMES.len()] {
         above |= rank > 1 << l;
         unread |= rank == 0 && attack != 0;
     }
-    [false, another, larger, above, unread]
+    [false, another, larger, above, unread, false, false]
 }

@@ -2,7 +2,7 @@
 
 use super::faults::change_bytes;
 use super::random::Random;
-use crate::certificate::records::{append, split, ATTACKS, CIRCUIT, REGION, REPLIES};
+use crate::certificate::records::{append, split, ATTACKS, CIRCUIT, PACKED, REGION, REPLIES};
 use crate::circuit::Circuit;
 use crate::print::print;
 
@@ -98,13 +98,19 @@ fn other_circuit(circuit: &Circuit, records: &mut Records, random: &mut Random) 
     }
 }
 
-/// 13: a table of another length or a bit that stands for no state.
+/// 13: a table of another length or a bit that stands for no state and no reply.
 fn lengths(circuit: &Circuit, records: &mut Records, random: &mut Random) {
     let which = random.between(1, records.len() - 1);
     let (kind, contents) = &mut records[which];
     let states = 1usize << circuit.latch_count();
     if *kind == REGION && states < 8 && contents.len() == 1 && random.chance(70) {
         contents[0] |= 1 << random.between(states, 7);
+        return;
+    }
+    let used = reply_bits(circuit);
+    if *kind == PACKED && used < 8 * contents.len() && random.chance(70) {
+        let bit = random.between(used, 8 * contents.len() - 1);
+        contents[bit / 8] |= 1 << (bit % 8);
         return;
     }
     match random.below(5) {
@@ -116,6 +122,11 @@ fn lengths(circuit: &Circuit, records: &mut Records, random: &mut Random) {
         3 => contents.clear(),
         _ => contents.truncate(contents.len() / 2),
     }
+}
+
+/// How many bits packed replies fill.
+fn reply_bits(circuit: &Circuit) -> usize {
+    circuit.controllable_count() << (circuit.latch_count() + circuit.uncontrollable_count())
 }
 
 /// 14: state 0 not in the region, or of rank 0.
@@ -145,6 +156,7 @@ fn step_rule(circuit: &Circuit, records: &mut Records, random: &mut Random) {
         match *kind {
             REGION => contents[at] ^= 1 << random.below(8.min(1 << circuit.latch_count())),
             REPLIES => contents[at] = number_near(random, circuit.controllable_count()),
+            PACKED => contents[at] ^= 1 << random.below(8.min(reply_bits(circuit) - 8 * at)),
             ATTACKS => attack_entry(circuit, contents, at / 3, random),
             _ => {}
         }

@@ -4,19 +4,31 @@
 //! any bytes where they aren't read.
 
 use super::random::Random;
-use crate::certificate::records::{append, ATTACKS, CIRCUIT, REGION, REPLIES};
+use crate::certificate::packing::pack;
+use crate::certificate::records::{append, ATTACKS, CIRCUIT, PACKED, REGION, REPLIES};
 use crate::circuit::Circuit;
 use crate::game::Game;
 use crate::moves::Moves;
 
-pub fn certificate(file: &[u8], circuit: &Circuit, game: &Game, random: &mut Random) -> Vec<u8> {
+pub fn certificate(
+    file: &[u8],
+    game: &Game,
+    packed: bool,
+    circuit: &Circuit,
+    random: &mut Random,
+) -> Vec<u8> {
     let mut moves = Moves::new(circuit);
     let mut bytes = Vec::new();
     append(&mut bytes, CIRCUIT, file);
     if game.realizable() {
         let closed = closed_set(&mut moves, game, random);
         append(&mut bytes, REGION, &region(&closed));
-        append(&mut bytes, REPLIES, &replies(&mut moves, &closed, random));
+        let replies = replies(&mut moves, &closed, random);
+        if packed {
+            append(&mut bytes, PACKED, &pack(&replies, game.controllable));
+        } else {
+            append(&mut bytes, REPLIES, &replies);
+        }
     } else {
         append(&mut bytes, ATTACKS, &attacks(&mut moves, game, random));
     }

@@ -4,7 +4,7 @@
 use crate::common::{checked, written, P, Q, R};
 use second::certificate::checker::{check, Tables};
 use second::certificate::records::append;
-use second::certificate::view::{Attacks, Replies};
+use second::certificate::view::{Attacks, Form, Replies};
 use second::certificate::writer::write;
 use second::refusal::refusal;
 
@@ -52,7 +52,7 @@ fn b35_shape_of_the_whole_first() {
     assert_eq!(checked(P, b""), Some((11, 0)));
 
     let circuit = P.as_bytes();
-    let tables: [&[(u16, &[u8])]; 9] = [
+    let tables: [&[(u16, &[u8])]; 10] = [
         &[(1, circuit)],
         &[(1, circuit), (2, &[3])],
         &[(1, circuit), (3, &[0, 1, 0, 1]), (2, &[3])],
@@ -61,7 +61,8 @@ fn b35_shape_of_the_whole_first() {
         &[(1, circuit), (2, &[3]), (3, &[0, 1, 0, 1]), (4, &[])],
         &[(1, circuit), (1, circuit), (2, &[3]), (3, &[0, 1, 0, 1])],
         &[(1, circuit), (258, &[3]), (3, &[0, 1, 0, 1])],
-        &[(1, circuit), (2, &[3]), (5, &[0b1010])],
+        &[(1, circuit), (2, &[3]), (6, &[0, 1, 0, 1])],
+        &[(1, circuit), (2, &[3]), (3, &[0, 1, 0, 1]), (5, &[0b1010])],
     ];
     for records in tables {
         assert_eq!(checked(P, &joined(records)), Some((11, 0)));
@@ -265,6 +266,7 @@ fn b43_any_starts_and_counts() {
             bytes: &bytes,
             region,
             replies,
+            form: Form::Bytes,
         };
         for count in [0, 1, 10, 63, 64, 1000, usize::MAX] {
             let within = view.region_bit(count, usize::MAX);

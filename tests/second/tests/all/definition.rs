@@ -191,6 +191,12 @@ fn ranks_and_region_part_the_states() {
     }
 }
 
+/// Bit j of reply k is bit k × C + j of the record.
+fn packed(replies: &[u8], width: usize, k: usize) -> usize {
+    let bit = |at: usize| usize::from(replies[at / 8] & (1 << (at % 8)) != 0);
+    (0..width).map(|j| bit(k * width + j) << j).sum()
+}
+
 /// The check of a certificate whose records have the right kinds and lengths.
 fn judged(circuit: &Circuit, bytes: &[u8]) -> Option<(u8, usize)> {
     let table = Table::of(circuit);
@@ -200,7 +206,10 @@ fn judged(circuit: &Circuit, bytes: &[u8]) -> Option<(u8, usize)> {
         let within = |s: usize| region[s / 8] & (1 << (s % 8)) != 0;
         let good = |index: usize| {
             let (s, r) = (index / table.readings, index % table.readings);
-            let c = usize::from(replies[index]);
+            let c = match records[2].kind {
+                3 => usize::from(replies[index]),
+                _ => packed(replies, circuit.controllable_count(), index),
+            };
             !within(s)
                 || (c < table.controls && !table.step(s, r, c).error)
                     && within(table.step(s, r, c).next)

@@ -11,6 +11,7 @@ mod generated;
 mod header;
 mod limits;
 mod lines;
+mod packed;
 mod printing;
 mod starred;
 mod symbols;

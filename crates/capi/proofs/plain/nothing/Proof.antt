@@ -1,6 +1,7 @@
 -- `capi::plain::nothing` meets its contract: that part is nothing. Assumes nothing.
 use mathlib.Core.Path.{refl}
 use Rattle.capi.specs.Plain.{circuitPart}
+use borrow.Author.Needs.{needs}
 use Rattle.capi.proofs.plain.nothing.Statement.{statement}
 use Rattle.capi.proofs.plain.nothing.Tie as tie
 

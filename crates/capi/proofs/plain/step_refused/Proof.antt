@@ -1,6 +1,7 @@
 -- `capi::plain::step_refused` meets its contract: number and place are handed on. Assumes nothing.
 use mathlib.Core.Path.{refl}
 use Rattle.capi.specs.Plain.{stepAnswer}
+use borrow.Author.Needs.{needs}
 use Rattle.capi.proofs.plain.step_refused.Statement.{statement}
 use Rattle.capi.proofs.plain.step_refused.Tie as tie
 

@@ -13,10 +13,10 @@ use Rattle.checker.proofs.replies.broken_reply.Statement.{statement}
 use Rattle.checker.proofs.replies.broken_reply.Tie as tie
 
 abbrev Inv-loop : tie.InvT-loop
-Inv-loop net region table n words₀ block₀ i₀ words block i = Passed (replyFault net region table) n i × Holding net block words
+Inv-loop net region kind table n words₀ block₀ i₀ words block i = Passed (replyFault net region kind table) n i × Holding net block words
 
 abbrev μ-loop : tie.MeasureT-loop
-μ-loop net region table n words₀ block₀ i₀ words block i = n - i
+μ-loop net region kind table n words₀ block₀ i₀ words block i = n - i
 
 -- how many places there are
 all : (w : tie.After-power Inv-loop μ-loop) → w .power .result ≡ 2 ^ (netLatches (w .before .before .before .before .before .before .args .net .now) +
@@ -64,7 +64,7 @@ reply-broken-requires c κs =
       w .before .before .before .before .before .before .pre,
       (
         subst (λ (m : ℕ). c .before .before .before .before .loop .i < m) (all w) (c .before .before .before .loop-test .taken),
-        λ e. subst (λ (b : ℕ). Holding n b (k .last .1 .1 .1 .1 .1 .0)) (k .ensures .1 e) (k .ensures .0),
+        λ e. subst (λ (b : ℕ). Holding n b (k .last .1 .1 .1 .1 .1 .1 .0)) (k .ensures .1 e) (k .ensures .0),
       ),
     )
 
@@ -73,10 +73,10 @@ returns c =
     let w = c .before .before .before .before .before .before .before .before .before in
     let a = w .before .before .before .before .before .before .args in
     let l = c .before .before .before .before .before .before .loop in
-    passed-found (replyFault (a .net .now) (a .region .now) (a .table .now)) (w .power .result) (l .i) (l .inv .0) (c .before .before .before .before
+    passed-found (replyFault (a .net .now) (a .region .now) (a .kind) (a .table .now)) (w .power .result) (l .i) (l .inv .0) (c .before .before .before .before
     .before .loop-test .taken)
     (sym (c .before .reply-broken .ensures) ∙ c .if1 .taken)
-    ∙ ap (least (replyFault (a .net .now) (a .region .now) (a .table .now))) (all w)
+    ∙ ap (least (replyFault (a .net .now) (a .region .now) (a .kind) (a .table .now))) (all w)
 
 add-i : tie.Need-add-i Inv-loop μ-loop
 add-i c = omega (arith, c .before .before .before .before .before .loop-test .taken)
@@ -89,7 +89,7 @@ loop-again c =
     let w = c .before .before .before .before .before .before .before .before .before in
     let a = w .before .before .before .before .before .before .args in
     let l = c .before .before .before .before .before .before .loop in (
-      passed-next (replyFault (a .net .now) (a .region .now) (a .table .now)) (w .power .result) (l .i) (l .inv .0) (c .before .before .before .before
+      passed-next (replyFault (a .net .now) (a .region .now) (a .kind) (a .table .now)) (w .power .result) (l .i) (l .inv .0) (c .before .before .before .before
           .before .loop-test .taken)
           (sym (c .before .reply-broken .ensures) ∙ c .if1 .left),
       c .before .before .before .look-at .ensures .0,
@@ -100,8 +100,8 @@ returns-2 c =
     let w = c .before .before .before .before in
     let a = w .before .before .before .before .before .before .args in
     let l = c .before .loop in
-    passed-end (replyFault (a .net .now) (a .region .now) (a .table .now)) (w .power .result) (l .i) (l .inv .0) (c .loop-test .left)
-    ∙ ap (least (replyFault (a .net .now) (a .region .now) (a .table .now))) (all w)
+    passed-end (replyFault (a .net .now) (a .region .now) (a .kind) (a .table .now)) (w .power .result) (l .i) (l .inv .0) (c .loop-test .left)
+    ∙ ap (least (replyFault (a .net .now) (a .region .now) (a .kind) (a .table .now))) (all w)
 
 pub broken-reply-spec : {M : Type 1} → statement M
 broken-reply-spec =

@@ -27,7 +27,7 @@ returns c =
     let h = c .before .holds-state in (
       s .pre .1 .1,
       λ e. absurd (true≢false (sym e
-          ∙ sym (held-is (a .net .now) (a .table .now) (a .place) (l .result) (u .result) (w .result) (l .ensures) (u .ensures) (w .ensures) (a .region .now)
+          ∙ sym (held-is (a .net .now) (a .place) (l .result) (u .result) (w .result) (l .ensures) (u .ensures) (w .ensures) (a .region .now)
           (h .result) (h .ensures)) ∙ not-true _ (c .if1 .taken))),
     )
 

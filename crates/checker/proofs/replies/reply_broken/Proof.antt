@@ -27,8 +27,8 @@ returns c =
     let u = c .before .before .before .before .readings-of in
     let w = c .before .before .power in
     let h = c .before .holds-state in
-    outside-no-fault (a .net .now) (a .region .now) (a .table .now) (a .place)
-    (sym (held-is (a .net .now) (a .table .now) (a .place) (l .result) (u .result) (w .result) (l .ensures) (u .ensures) (w .ensures) (a .region .now)
+    outside-no-fault (a .net .now) (a .region .now) (a .kind) (a .table .now) (a .place)
+    (sym (held-is (a .net .now) (a .place) (l .result) (u .result) (w .result) (l .ensures) (u .ensures) (w .ensures) (a .region .now)
     (h .result) (h .ensures)) ∙ not-true _ (c .if1 .taken))
 
 power-requires-2 : tie.Need-power-requires-2
@@ -38,8 +38,8 @@ power-requires-2 c κs = omega (
   c .before .before .before .before .before .before .before .before .before .pre .0 .fewReadings,
 )
 
-rem-stored-reply : tie.Need-rem-stored-reply
-rem-stored-reply c = width-positive (c .before .before .before .before .before .readings-of .result) (c .power2 .result) (c .power2 .ensures)
+rem-reading : tie.Need-rem-reading
+rem-reading c = width-positive (c .before .before .before .before .before .readings-of .result) (c .power2 .result) (c .power2 .ensures)
 
 power-requires-3 : tie.Need-power-requires-3
 power-requires-3 c κs = omega (
@@ -50,7 +50,8 @@ power-requires-3 c κs = omega (
 
 returns-2 : tie.Need-returns-2
 returns-2 c =
-    let a = c .before .before .before .before .before .before .before .before .before .before .before .before .before .args in
+    let s = c .before .before .before .before .before .before .before .before .before .before .before .before .before in
+    let a = s .args in
     let l = c .before .before .before .before .before .before .before .before .before .latches-of in
     let u = c .before .before .before .before .before .before .before .before .readings-of in
     let n = c .before .before .before .before .before .before .before .controls-of in
@@ -59,11 +60,11 @@ returns-2 c =
     let v = c .before .before .before .power2 in
     let k = c .before .before .stored-reply in
     let all : c .before .power3 .result ≡ 2 ^ netControls (a .net .now) = c .before .power3 .ensures ∙ ap (λ (m : ℕ). 2 ^ m) (n .ensures) in
-    no-control-fault (a .net .now) (a .region .now) (a .table .now) (a .place) (k .result)
-    (sym (held-is (a .net .now) (a .table .now) (a .place) (l .result) (u .result) (w .result) (l .ensures) (u .ensures) (w .ensures) (a .region .now)
+    no-control-fault (a .net .now) (a .region .now) (a .kind) (a .table .now) (a .place) (k .result)
+    (sym (held-is (a .net .now) (a .place) (l .result) (u .result) (w .result) (l .ensures) (u .ensures) (w .ensures) (a .region .now)
     (h .result) (h .ensures)) ∙ not-false _ (c .before .before .before .before .if1 .left))
-    (reply-is (a .net .now) (a .table .now) (a .place) (l .result) (u .result) (w .result) (l .ensures) (u .ensures) (w .ensures) (v .result)
-    (v .ensures) (k .result) (k .ensures))
+    (reply-is (a .net .now) (a .place) (l .result) (u .result) (w .result) (l .ensures) (u .ensures) (w .ensures) (s .pre .0) (n .result) (n .ensures)
+    (a .kind) (a .table .now) (v .result) (v .ensures) (k .result) (k .ensures))
     (omega (arith, all, c .if2 .taken))
 
 reply-move-requires : tie.Need-reply-move-requires
@@ -86,11 +87,11 @@ returns-3 c =
     let m = c .before .before .reply-move in
     let all : p .result ≡ 2 ^ netControls (a .net .now) = p .ensures ∙ ap (λ (i : ℕ). 2 ^ i) (n .ensures) in
     let inside =
-    sym (held-is (a .net .now) (a .table .now) (a .place) (l .result) (u .result) (w .result) (l .ensures) (u .ensures) (w .ensures) (a .region .now)
+    sym (held-is (a .net .now) (a .place) (l .result) (u .result) (w .result) (l .ensures) (u .ensures) (w .ensures) (a .region .now)
     (h .result) (h .ensures)) ∙ not-false _ (c .before .before .before .before .before .before .before .if1 .left) in
-    lane-fault (a .net .now) (a .region .now) (a .table .now) (a .place) (k .result) inside
-    (reply-is (a .net .now) (a .table .now) (a .place) (l .result) (u .result) (w .result) (l .ensures) (u .ensures) (w .ensures) (v .result)
-    (v .ensures) (k .result) (k .ensures))
+    lane-fault (a .net .now) (a .region .now) (a .kind) (a .table .now) (a .place) (k .result) inside
+    (reply-is (a .net .now) (a .place) (l .result) (u .result) (w .result) (l .ensures) (u .ensures) (w .ensures) (s .pre .0) (n .result) (n .ensures)
+    (a .kind) (a .table .now) (v .result) (v .ensures) (k .result) (k .ensures))
     (s .pre .0) (a .words .now) (m .result) (m .result % width) (c .lane-keeps-region .result)
     (subst (λ (i : ℕ). Holding (a .net .now) (i / width) (a .words .now)) (sym (m .ensures)) (s .pre .1 .1 inside)) (m .ensures) refl
     (subst (λ (i : ℕ). k .result < i) all (c .before .before .before .if2 .left))
@@ -109,7 +110,7 @@ reply-broken-spec =
     (λ c κs. search needs)
     returns
     power-requires-2
-    rem-stored-reply
+    rem-reading
     (λ c κs. search needs)
     power-requires-3
     (λ c. search needs)

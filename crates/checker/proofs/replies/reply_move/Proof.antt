@@ -24,8 +24,8 @@ cast-move-of c =
     let w = c .before .before .before .power in
     record { fits = place-state-fits (s .args .net .now) (s .pre .0) (s .args .place) (u .result) (w .result) (u .ensures) (w .ensures) (s .pre .1) }
 
-cast-t11 : tie.Need-cast-t11
-cast-t11 c =
+cast-t13 : tie.Need-cast-t13
+cast-t13 c =
     let s = c .before .before .before .before .before .before .before .before in
     let u = c .before .before .before .before .readings-of in
     let w = c .before .before .power2 in
@@ -38,10 +38,10 @@ returns c =
     let u = c .before .before .before .before .before .readings-of in
     let w = c .before .before .before .before .power in
     let v = c .before .before .before .power2 in
-    let k = c .before .before .stored-reply in
-    let n = c .before .controls-of in
-    move-is (s .args .net .now) (s .args .table .now) (s .args .place) (l .result) (u .result) (w .result) (l .ensures) (u .ensures) (w .ensures)
-    (v .result) (v .ensures) (k .result) (k .ensures) (s .pre .0) (n .result) (c .move-of .result) (n .ensures) (c .move-of .ensures)
+    let n = c .before .before .controls-of in
+    let k = c .before .stored-reply in
+    move-is (s .args .net .now) (s .args .place) (l .result) (u .result) (w .result) (l .ensures) (u .ensures) (w .ensures) (s .pre .0) (n .result)
+    (n .ensures) (s .args .kind) (s .args .table .now) (v .result) (v .ensures) (k .result) (k .ensures) (c .move-of .result) (c .move-of .ensures)
 
 pub reply-move-spec : {M : Type 1} → statement M
 reply-move-spec =
@@ -56,6 +56,6 @@ reply-move-spec =
     (λ c κs. search needs)
     (λ c κs. search needs)
     cast-move-of
-    cast-t11
+    cast-t13
     (λ c κs. search needs)
     returns)

@@ -20,18 +20,36 @@ returns c =
     let a = c .before .before .args in
     sym (ap (recordAt (a .at)) (split-headless (drop (a .at) (a .bytes .now)) (omega (arith, length-drop (a .at) (a .bytes .now)))))
 
+sub-room : tie.Need-sub-room
+sub-room c = search needs
+
 returns-2 : tie.Need-returns-2
 unfolding recordAt
 returns-2 c =
     let a = c .before .before .before .args in
     sym (ap (recordAt (a .at)) (split-headless (drop (a .at) (a .bytes .now)) (omega (arith, length-drop (a .at) (a .bytes .now)))))
 
+contents-length-requires : tie.Need-contents-length-requires
+contents-length-requires c κs = search needs
+
 returns-3 : tie.Need-returns-3
 unfolding recordAt
 returns-3 c =
     let a = c .before .before .before .before .before .args in
-    let short = length-drop (a .at) (a .bytes .now) in
-    sym (ap (recordAt (a .at)) (split-cut (drop (a .at) (a .bytes .now)) (omega (arith, short, c .before .contents-length .ensures))))
+    sym (ap (recordAt (a .at))
+    (split-cut (drop (a .at) (a .bytes .now)) (omega (arith, length-drop (a .at) (a .bytes .now), c .before .contents-length .ensures))))
+
+add-two-at : tie.Need-add-two-at
+add-two-at c = search needs
+
+two-at-requires : tie.Need-two-at-requires
+two-at-requires c κs = search needs
+
+add-start : tie.Need-add-start
+add-start c = search needs
+
+add-end : tie.Need-add-end
+add-end c = search needs
 
 returns-4 : tie.Need-returns-4
 unfolding recordAt
@@ -51,12 +69,12 @@ record-at-spec =
     tie.close
     (tie.spec
     returns
-    (λ c. search needs)
+    sub-room
     returns-2
-    (λ c κs. search needs)
+    contents-length-requires
     returns-3
-    (λ c. search needs)
-    (λ c κs. search needs)
-    (λ c. search needs)
-    (λ c. search needs)
+    add-two-at
+    two-at-requires
+    add-start
+    add-end
     returns-4)

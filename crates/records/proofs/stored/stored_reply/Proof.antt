@@ -1,90 +1,46 @@
--- `records::stored::stored_reply` meets its contract: an index that would not fit lies behind every byte. Assumes nothing.
-use Prim.Native.Nat.{ℕ, _+_, _*_, _^_, _≤_}
-use native.Mathlib.Nat.{div-lt-iff-lt-mul, le-div-iff-mul-le, mod-lt}
-use native.Mathlib.Omega.{arith}
-use mathlib.Core.Path.{sym, ap, _∙_}
-use lib.ListN.{length, getD}
-use lib.Pow.{pow-pos, pow-mono}
-use Rattle.bits.proofs.laws.Shift.{power-by-shift}
-use Rattle.records.proofs.laws.ReplyBytes.{stored-reply-at, stored-reply-first, stored-reply-past, stored-reply-far}
+-- `records::stored::stored_reply` meets its contract: the kind decides between the two tables. Assumes nothing.
+use Prim.Native.Nat.{ℕ, min}
+use mathlib.Core.Path.{sym, ap₂, _∙_}
 use borrow.Author.Needs.{needs}
+use Rattle.records.specs.ReplyBytes.{byteReply}
+use Rattle.records.proofs.laws.ReplyTable.{stored-packed, stored-byte}
 use Rattle.records.proofs.stored.stored_reply.Statement.{statement}
 use Rattle.records.proofs.stored.stored_reply.Tie as tie
 
+packed-reply-requires : tie.Need-packed-reply-requires
+packed-reply-requires c κs = search needs
+
 returns : tie.Need-returns
 returns c =
-    let a = c .before .before .before .before .before .args in
-    let row = c .before .before .before .low-bits in
-    let column = c .before .before .low-bits2 in
-    c .byte-at .ensures ∙ sym (stored-reply-first (a .bytes .now) (a .latches) (a .readings) (a .state) (a .reading) _ _ (row .ensures) (column .ensures)
+    let a = c .before .before .before .args in
+    c .packed-reply .ensures
+    ∙ sym (stored-packed (a .kind) (a .bytes .now) (min (a .latches) 10) (min (a .readings) 5) (min (a .controls) 8) (a .state) (a .reading)
     (c .before .if1 .taken))
+
+fewer-requires : tie.Need-fewer-requires
+fewer-requires c κs = search needs
+
+fewer-requires-2 : tie.Need-fewer-requires-2
+fewer-requires-2 c κs = search needs
+
+byte-reply-requires : tie.Need-byte-reply-requires
+byte-reply-requires c κs = search needs
 
 returns-2 : tie.Need-returns-2
 returns-2 c =
     let a = c .before .before .before .before .before .args in
-    let row = c .before .before .before .low-bits in
-    let column = c .before .before .low-bits2 in
-    sym (stored-reply-far (a .bytes .now) (a .latches) (a .readings) (a .state) (a .reading) _ _ (row .ensures) (column .ensures) (omega arith)
-    (c .if2 .taken) (omega arith))
-
-div-if3 : tie.Need-div-if3
-div-if3 c = let a = c .before .before .before .before .before .args in rw (power-by-shift (a .readings) (omega arith)) (pow-pos (a .readings))
-
-returns-3 : tie.Need-returns-3
-returns-3 c =
-    let a = c .before .before .before .before .before .before .args in
-    let row = c .before .before .before .before .low-bits in
-    let column = c .before .before .before .low-bits2 in
-    sym (stored-reply-past (a .bytes .now) (a .latches) (a .readings) (a .state) (a .reading) _ _ (row .ensures) (column .ensures)
-    (div-lt-iff-lt-mul (pow-pos (a .readings)) .0 (rw (power-by-shift (a .readings) (omega arith)) at (c .if3 .taken))))
-
--- where the index is computed it lies at most at the length
-inside :
-    (c : tie.Else3)
-    → c .before .before .before .before .low-bits .result * 2 ^ c .before .before .before .before .before .before .args .readings
-    ≤ length (c .before .before .before .before .before .before .args .bytes .now)
-inside c =
-    let a = c .before .before .before .before .before .before .args in
-    le-div-iff-mul-le (pow-pos (a .readings)) .0 (rw (power-by-shift (a .readings) (omega arith)) at (c .if3 .left))
-
-mul-byte-at : tie.Need-mul-byte-at
-mul-byte-at c = rw (power-by-shift (c .before .before .before .before .before .before .args .readings) (omega arith)) (omega (arith, inside c))
-
-add-byte-at : tie.Need-add-byte-at
-add-byte-at c =
-    let a = c .before .before .before .before .before .before .args in
-    rw (power-by-shift (a .readings) (omega arith))
-    (omega (
-      arith,
-      inside c,
-      mod-lt (a .reading) (pow-pos (a .readings)),
-      pow-mono {i = a .readings} {j = 63} (omega arith),
-      c .before .before .before .low-bits2 .ensures,
-    ))
-
-returns-4 : tie.Need-returns-4
-returns-4 c =
-    let a = c .before .before .before .before .before .before .before .args in
-    let row = c .before .before .before .before .before .low-bits in
-    let column = c .before .before .before .before .low-bits2 in
-    c .byte-at2 .ensures
-    ∙ ap (λ (w : ℕ). getD (a .bytes .now) (row .result * w + column .result) 0) (power-by-shift (a .readings) (omega arith))
-    ∙ sym (stored-reply-at (a .bytes .now) (a .latches) (a .readings) (a .state) (a .reading) (row .result) (column .result) (row .ensures)
-    (column .ensures))
+    c .byte-reply .ensures
+    ∙ ap₂ (λ (l u : ℕ). byteReply (a .bytes .now) l u (a .state) (a .reading)) (c .before .before .fewer .ensures) (c .before .fewer2 .ensures)
+    ∙ sym (stored-byte (a .kind) (a .bytes .now) (min (a .latches) 10) (min (a .readings) 5) (min (a .controls) 8) (a .state) (a .reading)
+    (c .before .before .before .if1 .left))
 
 pub stored-reply-spec : {M : Type 1} → statement M
 stored-reply-spec =
     tie.close
     (tie.spec
-    (λ c κs. search needs)
-    (λ c κs. search needs)
-    (λ c κs. search needs)
+    packed-reply-requires
     returns
-    returns-2
-    (λ c. search needs)
-    div-if3
-    returns-3
-    mul-byte-at
-    add-byte-at
-    (λ c κs. search needs)
-    returns-4)
+    fewer-requires
+    fewer-requires-2
+    byte-reply-requires
+    returns-2)

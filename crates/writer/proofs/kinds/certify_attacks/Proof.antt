@@ -25,8 +25,8 @@ add-if1-2 : tie.Need-add-if1-2
 add-if1-2 c = search needs
 
 returns : tie.Need-returns
-returns c = let a = c .before .before .before .before .before .args in λ w attacked.
-    no-attack-room (a .file .now) w (a .states) (a .ranks .now) (a .attacks .now) attacked (a .out .now) (c .if1 .taken)
+returns c = let a = c .before .before .before .before .before .args in λ kind w attacked.
+    no-attack-room kind (a .file .now) w (a .states) (a .ranks .now) (a .attacks .now) attacked (a .out .now) (c .if1 .taken)
 
 -- the start, seen from behind the file and behind the second head
 abbrev start-3 : tie.After-slice-known3 → tie.Start
@@ -88,8 +88,8 @@ returns-2 c =
     let a = start-3 third .args in
     let first = third .before .before .before .before .before .before .put-head .ensures in
     let file = third .before .before .put-bytes .ensures in
-    let second = fourth .before .before .put-head2 .ensures in λ w attacked.
-    attacks-in-parts (a .file .now) w (a .states) (a .ranks .now) (a .attacks .now) attacked (fits third)
+    let second = fourth .before .before .put-head2 .ensures in λ kind w attacked.
+    attacks-in-parts kind (a .file .now) w (a .states) (a .ranks .now) (a .attacks .now) attacked (fits third)
     (wrote-head circuitKind (length (a .file .now)) (first .0) (first .1))
     (wrote-put (omega (arith, file .0)) (file .1))
     (wrote-head attackKind (3 * a .states) (omega (arith, second .0)) (second .1))

@@ -3,14 +3,14 @@
 use Prim.Native.Nat.{ℕ, _+_, _*_, _/_, _^_, _<_, _≤_}
 use native.Mathlib.Omega.{arith}
 use mathlib.Core.Path.{_≡_}
-use lib.ListN.{length, take}
-use lib.Seq.{length-take-le}
+use lib.ListN.{length}
 use Rattle.bits.proofs.laws.Wrote.{wrote-put}
 use Rattle.bits.specs.BitBytes.{bitByte, bitBytes}
 use Rattle.circuit.specs.Limits.{base}
 use Rattle.put.proofs.laws.Head.{wrote-head}
-use Rattle.records.specs.Record.{circuitKind, regionKind, replyKind}
+use Rattle.records.specs.Record.{circuitKind, regionKind}
 use Rattle.solver.specs.Over.{rankZero}
+use Rattle.writer.specs.contracts.Cells.{cellsLength}
 use Rattle.writer.proofs.laws.Bounds.{few-replies, table-place}
 use Rattle.writer.proofs.laws.InParts.{no-reply-room, replies-in-parts}
 use borrow.Author.Needs.{needs}
@@ -20,15 +20,14 @@ use Rattle.writer.proofs.kinds.certify_replies.Tie as tie
 few : (s : tie.Start) → s .args .states * s .args .readings ≤ 2 ^ base .latches * 2 ^ base .uncontrollable
 few s = few-replies (s .args .states) (s .args .readings) (s .pre .0) (s .pre .1 .0)
 
--- the replies that are written
-front : (s : tie.Start) → length (take (s .args .states * s .args .readings) (s .args .replies .now)) ≡ s .args .states * s .args .readings
-front s = length-take-le (s .args .states * s .args .readings) (s .args .replies .now) (omega (arith, s .pre .1 .1, few s))
-
 add-region : tie.Need-add-region
 add-region c = search needs
 
 mul-n : tie.Need-mul-n
 mul-n c = omega (arith, few (c .before .before .before .before))
+
+cells-length-requires : tie.Need-cells-length-requires
+cells-length-requires c κs = let s = c .before .before .before .before in (few s, s .pre .1 .1 .0)
 
 mul-if1 : tie.Need-mul-if1
 mul-if1 c = search needs
@@ -40,15 +39,19 @@ add-if1-2 : tie.Need-add-if1-2
 add-if1-2 c = search needs
 
 add-if1-3 : tie.Need-add-if1-3
-add-if1-3 c = let s = c .before .before .before .before in omega (arith, few s, s .pre .0)
+add-if1-3 c = let s = c .before .before .before .before .before in omega (arith, few s, s .pre .0, c .cells-length .ensures .1)
 
 returns : tie.Need-returns
-returns c = let a = c .before .before .before .before .before .args in λ w replied.
-    no-reply-room (a .file .now) w (a .states) (a .readings) (a .ranks .now) (a .replies .now) replied (a .out .now) (c .if1 .taken)
+returns c =
+    let a = c .before .before .before .before .before .before .args in
+    let cells = c .before .cells-length in
+    let short : length (a .out .now) < 18 + length (a .file .now) + (a .states + 7) / 8 + cells .result = c .if1 .taken in λ w replied.
+    no-reply-room (a .kind) (a .file .now) w (a .states) (a .readings) (a .controls) (a .ranks .now) (a .replies .now) replied (a .out .now)
+    (omega (arith, cells .ensures .0))
 
 -- the start, seen from behind the file, the second head, the region, the third head and the replies
 abbrev start-3 : tie.After-slice-known3 → tie.Start
-start-3 c = let d = c .before .before .before .before .before .before .before .before in d .before .before .before .before .before
+start-3 c = let d = c .before .before .before .before .before .before .before .before in d .before .before .before .before .before .before
 
 abbrev start-4 : tie.After-slice-known4 → tie.Start
 start-4 c = start-3 (c .before .before .before .before)
@@ -61,13 +64,20 @@ start-6 c = start-5 (c .before .before .before .before)
 
 -- the certificate fits the buffer, and a slice has fewer than 2^63 bytes
 abbrev certificate-length : tie.Start → ℕ
-certificate-length s = 18 + length (s .args .file .now) + (s .args .states + 7) / 8 + s .args .states * s .args .readings
+certificate-length s =
+    let a = s .args in
+    18 + length (a .file .now) + (a .states + 7) / 8 + cellsLength (a .kind) (a .states * a .readings) (a .controls)
 
 slice-small : (s : tie.Start) → length (s .args .out .now) < 2 ^ 63
 slice-small s = omega arith
 
 fits : (c : tie.After-slice-known3) → certificate-length (start-3 c) ≤ length (start-3 c .args .out .now)
-fits c = c .before .before .before .before .before .before .before .before .if1 .left
+fits c =
+    let a = start-3 c .args in
+    let d = c .before .before .before .before .before .before .before .before in
+    let cells = d .before .cells-length in
+    let room : 18 + length (a .file .now) + (a .states + 7) / 8 + cells .result ≤ length (a .out .now) = d .if1 .left in
+    omega (arith, cells .ensures .0)
 
 small : (c : tie.After-slice-known3) → certificate-length (start-3 c) < 2 ^ 63
 small c = omega (arith, slice-small (start-3 c), fits c)
@@ -128,24 +138,19 @@ add-third c =
     let b = c .before .before .before .before .before .before .before .before in
     omega (arith, small (b .before .before .before .before), third-at c)
 
-slice-aggregate-put-bytes : tie.Need-slice-aggregate-put-bytes
-slice-aggregate-put-bytes c = let long = front (start-6 (c .before .before)) in search needs
-
-put-bytes-requires-2 : tie.Need-put-bytes-requires-2
-put-bytes-requires-2 c κs = search needs
-
-add-behind : tie.Need-add-behind
-add-behind c =
-    let third = c .before .before .before .before .before in
-    let b = third .before .before .before .before .before .before .before .before in
-    omega (arith, small (b .before .before .before .before), third-at third, c .before .before .put-bytes2 .ensures .0, front (start-6 third))
+put-cells-requires : tie.Need-put-cells-requires
+put-cells-requires c κs =
+    let b = c .before in
+    let d = b .before .before .before .before .before .before .before .before .before .before .before .before in
+    let s = start-6 b in
+    (omega (arith, small d, third-at b), (omega (arith, s .pre .1 .1 .1, few s), s .pre .1 .1 .0))
 
 same-length : tie.Need-same-length
 same-length c = search needs
 
 returns-2 : tie.Need-returns-2
 returns-2 c =
-    let sixth = c .before .before .before .before .before in
+    let sixth = c .before .before .before .before in
     let fifth = sixth .before .before .before .before in
     let fourth = fifth .before .before .before .before in
     let third = fourth .before .before .before .before in
@@ -154,14 +159,15 @@ returns-2 c =
     let file = third .before .before .put-bytes .ensures in
     let second = fourth .before .before .put-head2 .ensures in
     let last = sixth .before .before .put-head3 .ensures in
-    let cells = c .before .before .put-bytes2 .ensures in λ w replied.
-    replies-in-parts (a .file .now) w (a .states) (a .readings) (a .ranks .now) (a .replies .now) replied (fits third)
+    let cells = third .before .before .before .before .before .before .before .before .before .cells-length in λ w replied.
+    replies-in-parts (a .kind) (a .file .now) w (a .states) (a .readings) (a .controls) (a .ranks .now) (a .replies .now) replied (fits third)
+    (cells .ensures .0)
     (wrote-head circuitKind (length (a .file .now)) (first .0) (first .1))
     (wrote-put (omega (arith, file .0)) (file .1))
     (wrote-head regionKind ((a .states + 7) / 8) (omega (arith, second .0)) (second .1))
     (fifth .before .before .put-region .ensures)
-    (wrote-head replyKind (a .states * a .readings) (omega (arith, last .0)) (last .1))
-    (wrote-put (omega (arith, cells .0)) (cells .1))
+    (wrote-head (a .kind) (cells .result) (omega (arith, last .0)) (last .1))
+    (c .before .before .put-cells .ensures)
 
 pub certify-replies-spec : {M : Type 1} → statement M
 certify-replies-spec =
@@ -169,6 +175,7 @@ certify-replies-spec =
     (tie.spec
     add-region
     mul-n
+    cells-length-requires
     mul-if1
     add-if1
     add-if1-2
@@ -182,8 +189,6 @@ certify-replies-spec =
     put-region-requires
     put-head-requires-3
     add-third
-    slice-aggregate-put-bytes
-    put-bytes-requires-2
-    add-behind
+    put-cells-requires
     same-length
     returns-2)

@@ -4,6 +4,8 @@ use native.Mathlib.Omega.{arith}
 use mathlib.Core.List.{List}
 use mathlib.Core.Path.{_≡_, sym, ap, _∙_, subst}
 use lib.ListN.{length, take}
+use Rattle.below.specs.Table.{table}
+use Rattle.below.proofs.laws.Table.{length-table}
 use Rattle.bits.specs.Wrote.{Wrote}
 use Rattle.bits.proofs.laws.Wrote.{wrote-put}
 use Rattle.circuit.specs.Limits.{base}
