@@ -1,3 +1,4 @@
+pub mod Retired
 pub mod Pass
 pub mod Rules
 pub mod Means

@@ -2,14 +2,15 @@
 -- Assumes nothing.
 use Prim.Native.Nat.{ℕ}
 use mathlib.Core.Bool.{Bool, not}
-use mathlib.Core.List.{List}
+use mathlib.Core.List.{List, []}
 use mathlib.Core.Option.{Option, none, some}
+use Rattle.below.specs.Among.{member}
 use Rattle.bits.specs.Bytes.{sameBytes}
 use Rattle.circuit.specs.Circuit.{Circuit}
 use Rattle.circuit.specs.Outcome.{Outcome, taken, refused, _>>=_, _>>_, refuseIf}
 use Rattle.file.specs.CircuitIn.{circuitIn}
 use Rattle.records.specs.Tables.{acceptedKinds, Tables, replies, attacks, tablesOf, circuitPart}
-use Rattle.checker.specs.Numbers.{badShape, otherCircuit, badTable, badReset, brokenStep}
+use Rattle.checker.specs.Numbers.{badShape, otherCircuit, badTable, badReset, brokenStep, retiredKind}
 use Rattle.checker.specs.Rules.{badReplyTables, badAttackTable, resetOutside, resetUnranked}
 use Rattle.checker.specs.Rules.{brokenReply, someReplyBroken, brokenAttack, someAttackBroken}
 
@@ -33,10 +34,20 @@ tablesChecked c (replies circuit region kind table) =
 tablesChecked c (attacks circuit table) =
     judgedBy (badAttackTable c table) (resetUnranked c table) (someAttackBroken c table) (brokenAttack c table) (attacks circuit table)
 
--- the tables of a certificate that passes for a file, or number and place
-unfoldable pub checkOf : (file certificate : List ℕ) → Outcome Tables
-checkOf file certificate = do
+-- a reply record of a kind that is retired
+unfoldable pub orRetired : (retired : List ℕ) → Tables → Outcome (Unit {0})
+orRetired retired (replies circuit region kind table) = refuseIf (member kind retired) retiredKind 0
+orRetired retired (attacks circuit table) = taken tt
+
+-- the order of the numbers, given the kinds that are retired: the file's, 11, 12, that of a retired kind, 13 to 15
+unfoldable pub chainOf : (retired : List ℕ) (file certificate : List ℕ) → Outcome Tables
+chainOf retired file certificate = do
   c ← circuitIn file
   t ← orBadShape (tablesOf acceptedKinds certificate)
   refuseIf (not (sameBytes (circuitPart t) file)) otherCircuit 0
+  orRetired retired t
   tablesChecked c t
+
+-- the tables of a certificate that passes for a file, or number and place; no kind is retired
+unfoldable pub checkOf : (file certificate : List ℕ) → Outcome Tables
+checkOf file certificate = chainOf [] file certificate

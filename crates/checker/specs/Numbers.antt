@@ -15,3 +15,7 @@ badReset = 14
 
 abbrev pub brokenStep : ℕ
 brokenStep = 15
+
+-- of a kind that is retired (02, T-09): none is
+abbrev pub retiredKind : ℕ
+retiredKind = 21

@@ -80,9 +80,8 @@ impl Pool {
                 break file;
             }
         };
-        let written = read(&file).map_or(0, |circuit| {
-            writes(function)(&file, &solve(&circuit)).len()
-        });
+        let written =
+            read(&file).map_or(0, |circuit| writes(function)(&file, &solve(&circuit)).len());
         Case {
             file,
             room: room(written, random),

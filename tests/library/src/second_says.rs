@@ -116,8 +116,7 @@ fn circuit_record(certificate: &[u8]) -> [u64; 2] {
 }
 
 fn looked_up(function: Function, case: &Case) -> u64 {
-    let [region, table, l, u, state, reading, c, kind] =
-        case.numbers.map(|number| number as usize);
+    let [region, table, l, u, state, reading, c, kind] = case.numbers.map(|number| number as usize);
     let bytes = &case.certificate;
     let replies = Replies {
         bytes,

@@ -45,7 +45,7 @@ use Rattle.records.specs.ReplyTable.{tableLength, storedReply, unusedReplyBit, 
 use Rattle.records.specs.Tables.{thirdOf, secondOf, firstOf as firstRecord, tablesOf, circuitPart}
 use Rattle.file.specs.CircuitIn.{circuitIn}
 use Rattle.listing.specs.Page.{verdictWord, listingText, refusalText, pageFor, pageOf}
-use Rattle.checker.specs.Check.{orBadShape, tablesChecked, checkOf}
+use Rattle.checker.specs.Check.{orBadShape, orRetired, tablesChecked, chainOf, checkOf}
 use Rattle.checker.specs.Rules.{badReplyTables, badAttackTable, resetOutside, resetUnranked, brokenReply, brokenAttack}
 use Rattle.writer.specs.Certificate.{replyCertificate, attackCertificate, certificateOf, certified}
 use Rattle.cases.specs.Starred.{lengthsOf, answerTo}
@@ -61,7 +61,7 @@ unfolding flatMap bit odd oneIf byteBit sameBytes startsWith digits sum among me
     valuation attack attackBroken circuitGame isRealizable keeps answered safe replyLine attackLine listingOf notRanked defeats defeated round
     ranksAfter rank inRegion reply replyBroken realizable attackLength storedRank storedAttack attackBytes recordOf contentsLength split regionLength
     holdsState unusedBitSet unusedBit bitByte bitBytes regionBytes replyLength byteReply replyBytes tableLength storedReply unusedReplyBit tableBytes
-    thirdOf secondOf firstRecord tablesOf circuitPart circuitIn orBadShape tablesChecked checkOf badReplyTables badAttackTable resetOutside
+    thirdOf secondOf firstRecord tablesOf circuitPart circuitIn orBadShape orRetired tablesChecked chainOf checkOf badReplyTables badAttackTable resetOutside
     resetUnranked brokenReply brokenAttack replyCertificate attackCertificate certificateOf certified decimalWithin decimal numberLine verdictWord
     listingText refusalText pageFor pageOf lengthsOf answerTo
 starred-hold = refl

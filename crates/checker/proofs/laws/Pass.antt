@@ -2,9 +2,9 @@
 -- circuit (01, "The certificate": a certificate passes exactly if no number applies). Assumes nothing.
 use Prim.Native.Nat.{ℕ}
 use mathlib.Core.Bool.{false, not}
-use mathlib.Core.List.{List, _++_}
+use mathlib.Core.List.{List, [], _++_}
 use mathlib.Core.Option.{Option, none, some}
-use mathlib.Core.Path.{_≡_, ap, _∙_, subst}
+use mathlib.Core.Path.{_≡_, sym, ap, _∙_, subst}
 use borrow.Author.Tests.{not-false}
 use Rattle.bits.specs.Bytes.{sameBytes}
 use Rattle.bits.specs.Digits.{AllBelow}
@@ -17,11 +17,12 @@ use Rattle.records.specs.Record.{recordOf, whole, circuitKind}
 use Rattle.records.specs.Tables.{acceptedKinds, Tables, replies, attacks, tablesOf, circuitPart}
 use Rattle.records.proofs.laws.Record.{whole-record}
 use Rattle.records.proofs.laws.Tables.{tables-begin}
-use Rattle.checker.specs.Check.{orBadShape, tablesChecked, checkOf}
+use Rattle.checker.specs.Check.{orBadShape, orRetired, tablesChecked, chainOf, checkOf}
 use Rattle.checker.specs.Numbers.{otherCircuit}
 use Rattle.checker.specs.Rules.{badReplyTables, badAttackTable, resetOutside, resetUnranked}
 use Rattle.checker.specs.Rules.{brokenReply, someReplyBroken, brokenAttack, someAttackBroken}
 use Rattle.checker.proofs.laws.JudgedBy.{judged-fine, fine-judged}
+use Rattle.checker.proofs.laws.Retired.{none-retired}
 
 -- no number applies to a reply table
 pub record RepliesPass (c : Circuit) (region : List ℕ) (kind : ℕ) (table : List ℕ) : Type 0 where
@@ -67,15 +68,15 @@ shaped-is none t e = absurd (refused-is-not-taken _ _ t e)
 shaped-is (some u) t e = cc
 
 pub pass-is : (file certificate : List ℕ) (t : Tables) → checkOf file certificate ≡ taken t → Passes file certificate t
-unfolding checkOf
+unfolding checkOf chainOf
 pass-is file certificate t e =
     let shape = orBadShape (tablesOf acceptedKinds certificate) in
     let on : Circuit → Tables → Outcome Tables =
-    λ c u. refuseIf (not (sameBytes (circuitPart u) file)) otherCircuit 0 >> tablesChecked c u in
+    λ c u. refuseIf (not (sameBytes (circuitPart u) file)) otherCircuit 0 >> (orRetired [] u >> tablesChecked c u) in
     let (c, reads, e1) = bind-taken (circuitIn file) (λ c. shape >>= on c) t e in
     let (u, shaped, e2) = bind-taken shape (on c) t e1 in
-    let (same, e3) = passed-test (not (sameBytes (circuitPart u) file)) otherCircuit 0 (tablesChecked c u) t e2 in
-    let (is, fine) = tables-pass c u t e3 in
+    let (same, e3) = passed-test (not (sameBytes (circuitPart u) file)) otherCircuit 0 (orRetired [] u >> tablesChecked c u) t e2 in
+    let (is, fine) = tables-pass c u t (sym (none-retired u (tablesChecked c u)) ∙ e3) in
     subst (Passes file certificate) is
     (record {
       circuit = c;

@@ -13,24 +13,25 @@ use Rattle.file.specs.CircuitIn.{circuitIn}
 use Rattle.file.proofs.laws.Exact.{told-refused}
 use Rattle.records.specs.Tables.{acceptedKinds, Tables, tablesOf, circuitPart}
 use Rattle.checker.specs.Answer.{startsOf, answerOf}
-use Rattle.checker.specs.Check.{orBadShape, tablesChecked, checkOf}
+use Rattle.checker.specs.Check.{orBadShape, tablesChecked, chainOf, checkOf}
 use Rattle.checker.specs.Numbers.{badShape, otherCircuit}
+use Rattle.checker.proofs.laws.Retired.{none-retired}
 
 module _ (file certificate : List ℕ) where
   -- a file that is read
   module _ (c : Circuit) (read : circuitIn file ≡ taken c) where
     pub misshapen-refused : tablesOf acceptedKinds certificate ≡ none → checkOf file certificate ≡ refused badShape 0
-    unfolding checkOf orBadShape
+    unfolding checkOf chainOf orBadShape
     misshapen-refused e = rw (read, e)
 
     module _ (t : Tables) (e : tablesOf acceptedKinds certificate ≡ some t) where
       pub other-refused : sameBytes (circuitPart t) file ≡ false → checkOf file certificate ≡ refused otherCircuit 0
-      unfolding checkOf orBadShape refuseIf
+      unfolding checkOf chainOf orBadShape refuseIf
       other-refused f = rw (read, e, f)
 
       pub same-goes-on : sameBytes (circuitPart t) file ≡ true → checkOf file certificate ≡ tablesChecked c t
-      unfolding checkOf orBadShape refuseIf
-      same-goes-on f = rw (read, e, f)
+      unfolding checkOf chainOf orBadShape refuseIf
+      same-goes-on f = rw (read, e, f) (none-retired t (tablesChecked c t))
 
     pub answer-told : (o : Outcome Tables) → checkOf file certificate ≡ o → answerOf file certificate ≡ (o >>= λ t. taken (startsOf c t))
     unfolding answerOf
@@ -39,7 +40,7 @@ module _ (file certificate : List ℕ) where
   -- one that isn't
   module _ (number place : ℕ) (read : circuitIn file ≡ refused number place) where
     pub file-refused : checkOf file certificate ≡ refused number place
-    unfolding checkOf
+    unfolding checkOf chainOf
     file-refused = rw read
 
     pub file-answered : answerOf file certificate ≡ refused number place

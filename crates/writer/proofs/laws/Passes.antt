@@ -31,9 +31,10 @@ use Rattle.records.specs.Tables.{acceptedKinds, Tables, replies, attacks, table
 use Rattle.records.proofs.laws.Lengths.{length-region, length-attacks}
 use Rattle.records.proofs.laws.ReplyTable.{length-table-bytes}
 use Rattle.records.proofs.laws.WrittenShape.{replies-shape, attacks-shape}
-use Rattle.checker.specs.Check.{orBadShape, tablesChecked, checkOf}
+use Rattle.checker.specs.Check.{orBadShape, tablesChecked, chainOf, checkOf}
 use Rattle.checker.specs.Numbers.{otherCircuit}
 use Rattle.checker.proofs.laws.Pass.{TablesPass, tables-taken}
+use Rattle.checker.proofs.laws.Retired.{none-retired}
 use Rattle.writer.specs.Answer.{Verdict, certificateFor, verdictFor}
 use Rattle.writer.specs.Certificate.{replyCertificate, attackCertificate, certificateOf}
 use Rattle.writer.proofs.laws.Certified.{replies-of, attacks-of}
@@ -62,10 +63,11 @@ packed-accepted = record { taken-kind = refl; narrow = omega arith }
 pub passes-of :
     (file certificate : List ℕ) (c : Circuit) (t : Tables) → circuitIn file ≡ taken c → tablesOf acceptedKinds certificate ≡ some t
     → circuitPart t ≡ file → TablesPass c t → checkOf file certificate ≡ taken t
-unfolding checkOf orBadShape
+unfolding checkOf chainOf orBadShape
 passes-of file certificate c t reads shape same fine =
     rw (reads, shape)
-    (test-passes (not (sameBytes (circuitPart t) file)) otherCircuit 0 (tablesChecked c t) (ap not (equal-same-bytes (circuitPart t) file same))
+    (test-passes (not (sameBytes (circuitPart t) file)) otherCircuit 0 _ (ap not (equal-same-bytes (circuitPart t) file same))
+    ∙ none-retired t (tablesChecked c t)
     ∙ tables-taken c t fine)
 
 module _ (file : List ℕ) (c : Circuit) (within : Within file c) where
