@@ -121,3 +121,9 @@ def climb(net, up, bits):
     for bit in up[len(low):]:
         over = net.either(over, bit)
     return [*(net.either(bit, over) for bit in total), *high], net.every(low)
+
+
+def chain(turned):
+    """999 gates, each of which uses the one before it, from the first line to the last or the other way round."""
+    gates = [f"{2 * k + 2} {2 * k} 2\n" for k in range(1, LARGEST)]
+    return f"aag {LARGEST} 1 0 1 {LARGEST - 1}\n2\n{2 * LARGEST}\n" + "".join(reversed(gates) if turned else gates)

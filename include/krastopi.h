@@ -43,7 +43,8 @@ enum krastopi_number {
     KRASTOPI_OTHER_CIRCUIT = 12,
     KRASTOPI_WRONG_LENGTH = 13,
     KRASTOPI_RESET_OUTSIDE = 14,
-    KRASTOPI_BROKEN_RULE = 15
+    KRASTOPI_BROKEN_RULE = 15,
+    KRASTOPI_GATE_CIRCLE = 16
 };
 
 /* What a number says. */
@@ -56,7 +57,7 @@ static inline const char *krastopi_text(unsigned char number) {
         "A line before the symbols is malformed or missing.",
         "A literal is too large, or a defining one is odd or 0.",
         "A variable is defined twice.",
-        "A used variable isn't defined, or a gate's operand not before the gate.",
+        "A used variable isn't defined.",
         "A symbol line is bad, its position is, or its symbol is repeated.",
         "There are more than 5 uncontrollable or 8 controllable inputs.",
         "The lent buffer is shorter than what must be written.",
@@ -65,6 +66,7 @@ static inline const char *krastopi_text(unsigned char number) {
         "The region, the replies or the attack table has the wrong length, or an unused bit is 1.",
         "State 0 isn't in the region, or has rank 0.",
         "A step rule is broken; the place is state x 2^U + reading, or the state in an attack table.",
+        "A gate reaches itself through gates.",
     };
     return number < sizeof texts / sizeof texts[0] ? texts[number] : "There is no such number.";
 }

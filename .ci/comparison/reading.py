@@ -1,4 +1,4 @@
-"""`answers` and `second read` (01, "The numbers", 1 to 9)."""
+"""`answers` and `second read` (01, "The numbers", 1 to 9; 02, T-01: 16)."""
 import collections
 
 from .programs import batches, ours, second_answers

@@ -1,10 +1,10 @@
--- A circuit (01, "The file", rules 1, 2 and 4, and the sentence on controllable inputs): what its text means, lines in the order of the
--- file. Names, comment and the spelling of the file are no part of it. Assumes nothing.
+-- A circuit (01, "The file", rules 1, 2 and 4, and the sentence on controllable inputs; 02, T-01): what its text means, inputs and latches
+-- in the order of the file, gates in order of evaluation. Names, comment and the spelling of the file are no part of it. Assumes nothing.
 use Prim.Native.Nat.{ℕ, zero, suc}
 use mathlib.Core.Bool.{Bool, cond, not, _||_}
-use mathlib.Core.List.{List, [], _∷_}
+use mathlib.Core.List.{List, [], _∷_, map}
 use lib.Dec.{ltb}
-use lib.ListN.{length}
+use lib.ListN.{length, getD}
 use Rattle.circuit.specs.Limits.{Limits}
 
 -- an input's literal, and whether it is controllable
@@ -29,6 +29,16 @@ pub record Circuit : Type 0 where
   pub latches : List Latch
   pub output : ℕ
   pub gates : List Gate
+  -- for each gate line of the file in turn, which of the gates it is
+  pub lines : List ℕ
+
+-- a gate of a list; one that isn't there gives variable 0, the constant, its own value
+unfoldable pub gateAt : List Gate → ℕ → Gate
+gateAt gates i = getD gates i (record { own = 0; left = 0; right = 0 })
+
+-- the gates in the order of the file's lines
+unfoldable pub gateLines : Circuit → List Gate
+gateLines c = map (gateAt (c .gates)) (c .lines)
 
 -- how many inputs of a list pass
 unfoldable pub inputsThat : (Input → Bool) → List Input → ℕ

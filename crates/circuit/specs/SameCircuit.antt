@@ -2,7 +2,7 @@
 use mathlib.Core.Path.{_≡_}
 use mathlib.Core.List.{map}
 use lib.ListN.{length}
-use Rattle.circuit.specs.Circuit.{Circuit, Input}
+use Rattle.circuit.specs.Circuit.{Circuit, Input, gateLines}
 
 -- M, I, L and A of the header; O is 1
 pub record SameHeader (c d : Circuit) : Type 0 where
@@ -15,7 +15,7 @@ pub record SameLines (c d : Circuit) : Type 0 where
   pub inputs : map (λ (i : Input). i .own) (c .inputs) ≡ map (λ (i : Input). i .own) (d .inputs)
   pub latches : c .latches ≡ d .latches
   pub output : c .output ≡ d .output
-  pub gates : c .gates ≡ d .gates
+  pub gates : gateLines c ≡ gateLines d
 
 pub record SameCircuit (c d : Circuit) : Type 0 where
   pub header : SameHeader c d

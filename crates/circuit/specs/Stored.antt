@@ -32,7 +32,7 @@ gatesOf gate left right =
     (λ i. record { own = literalOf (getD gate i 0); left = literalOf (getD left i 0); right = literalOf (getD right i 0) })
     (length gate)
 
--- the circuit of lent lists
+-- the circuit of lent lists, each gate on the line of its own number
 unfoldable pub lent : ℕ → (input controllable latch next : List ℕ) → ℕ → (gate left right : List ℕ) → Circuit
 lent largest input controllable latch next output gate left right =
     record {
@@ -41,13 +41,27 @@ lent largest input controllable latch next output gate left right =
       latches = latchesOf latch next;
       output = literalOf output;
       gates = gatesOf gate left right;
+      lines = table (λ i. i) (length gate);
+    }
+
+-- a circuit whose gates stand on other lines
+unfoldable pub onLines : List ℕ → Circuit → Circuit
+onLines lines c =
+    record {
+      largest = c .largest;
+      inputs = c .inputs;
+      latches = c .latches;
+      output = c .output;
+      gates = c .gates;
+      lines = lines;
     }
 
 -- the circuit that a value stands for
 unfoldable pub meant : Value → Circuit
 meant v =
-    lent (v .largest) (take (v .inputs) (v .input)) (v .controllable) (take (v .latches) (v .latch)) (v .next) (v .output)
-    (take (v .gates) (v .gate)) (v .left) (v .right)
+    onLines (take (v .gates) (v .lines))
+    (lent (v .largest) (take (v .inputs) (v .input)) (v .controllable) (take (v .latches) (v .latch)) (v .next) (v .output)
+    (take (v .gates) (v .gate)) (v .left) (v .right))
 
 -- n numbers: those of a list, then zeros
 unfoldable pub padded : ℕ → List ℕ → List ℕ
@@ -69,11 +83,12 @@ stored c =
       gate = padded (base .variable) (map (λ (g : Gate). g .own) (c .gates));
       left = padded (base .variable) (map (λ (g : Gate). g .left) (c .gates));
       right = padded (base .variable) (map (λ (g : Gate). g .right) (c .gates));
+      lines = padded (base .variable) (c .lines);
     }
 
 -- the circuit that says nothing
 unfoldable pub emptyCircuit : Circuit
-emptyCircuit = record { largest = 0; inputs = []; latches = []; output = 0; gates = [] }
+emptyCircuit = record { largest = 0; inputs = []; latches = []; output = 0; gates = []; lines = [] }
 
 -- the circuit, or the empty one where it has more inputs of a sort than a circuit may have
 unfoldable pub solvable : Circuit → Circuit

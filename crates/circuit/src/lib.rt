@@ -3,7 +3,8 @@ pub mod counts;
 pub mod limits;
 pub mod stored;
 
-// A circuit (01, "The file"): counts and literals, lines in the order of the file.
+// A circuit (01, "The file"; 02, T-01): counts and literals, inputs and latches in the order of the file, gates in order of evaluation; for each
+// gate line of the file, which of the gates it is.
 // Arrays are of numbers, so that a step can lend them; what lies behind a count isn't read.
 pub struct Circuit {
     pub largest: u16,
@@ -18,6 +19,7 @@ pub struct Circuit {
     pub gate: [u16; Circuit::VARIABLES],
     pub left: [u16; Circuit::VARIABLES],
     pub right: [u16; Circuit::VARIABLES],
+    pub lines: [u16; Circuit::VARIABLES],
 }
 
 // The limits (01, "What the library takes and gives").

@@ -1,4 +1,4 @@
-// What the literals of a line call for (01, "The file", rules 3 and 4; "The numbers", 5 to 7).
+// What the literals of a line call for (01, "The file", rules 3 and 4; "The numbers", 5 and 6), and whether a literal is defined (7).
 ghost use Prim.Native.Nat.{_<_, _+_, _*_};
 ghost use mathlib.Core.Bool.{_&&_, _||_};
 ghost use mathlib.Core.Path.{_≡_};
@@ -70,18 +70,15 @@ pub fn both(a: bool, b: bool) -> bool
     false
 }
 
-// The first of 5, 6 and 7 that applies, or 0.
-pub fn first_of(five: bool, six: bool, seven: bool) -> u8
-    ensures { λ r. ⌜ r ≡ numberOr (firstOf five six seven) ⌝ }
+// The first of 5 and 6 that applies, or 0.
+pub fn first_of(five: bool, six: bool) -> u8
+    ensures { λ r. ⌜ r ≡ numberOr (firstOf five six) ⌝ }
 {
     if five {
         return 5;
     }
     if six {
         return 6;
-    }
-    if seven {
-        return 7;
     }
     0
 }

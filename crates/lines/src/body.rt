@@ -1,4 +1,4 @@
-// One line before the symbols (01, "The file", rule 2): its numbers, or the first of 4, 5, 6 and 7 that applies to it.
+// One line before the symbols (01, "The file", rule 2): its numbers, or the first of 4, 5 and 6 that applies to it.
 use crate::kind::Form;
 use crate::kind::Kind;
 use crate::kind::form_of;
@@ -7,7 +7,6 @@ use fields::judge::both;
 use fields::judge::either;
 use fields::judge::first_of;
 use fields::judge::is_marked;
-use fields::judge::is_unknown;
 use fields::judge::too_large;
 use fields::row::Row;
 use fields::row::row_at;
@@ -22,8 +21,8 @@ pub enum Lined {
     Fault(u8),
 }
 
-// A whole line of a kind, where the marked variables were defined above. That the literals of latches and output are defined is looked at
-// behind all gate lines.
+// A whole line of a kind, where the marked variables were defined above. That what a line uses is defined is looked at behind all gate
+// lines.
 pub fn line(kind: Kind, bytes: &[u8], m: u32, defined: &[u8]) -> Lined
     ensures { λ r. ⌜ LinedAs m (ruleOf kind m) (now (defined .entry)) (now (bytes .entry)) r ⌝ }
 {
@@ -44,16 +43,12 @@ pub fn line(kind: Kind, bytes: &[u8], m: u32, defined: &[u8]) -> Lined
     Lined::Fault(number)
 }
 
-// The first of 5, 6 and 7 that a line's literals call for, or 0.
+// The first of 5 and 6 that a line's literals call for, or 0.
 fn fault_of(form: Form, m: u32, own: u32, a: u32, b: u32, defined: &[u8]) -> u8
     ensures { λ r. ⌜ r ≡ numberOr (faultOf form m (now (defined .entry)) own a b) ⌝ }
 {
     let large = either(too_large(m, own), either(too_large(m, a), too_large(m, b)));
     let bad = both(form.defines, bad_own(m, own));
     let twice = both(form.defines, is_marked(defined, own));
-    let unknown = both(
-        form.above,
-        either(is_unknown(defined, a), is_unknown(defined, b)),
-    );
-    first_of(either(bad, large), twice, unknown)
+    first_of(either(bad, large), twice)
 }

@@ -11,12 +11,11 @@ pub enum Kind {
     Gate,
 }
 
-// What a kind asks: from how many numbers to how many; whether the first defines a variable, and whether the others must be defined above.
+// What a kind asks: from how many numbers to how many; and whether the first defines a variable.
 pub struct Form {
     pub fewest: usize,
     pub most: usize,
     pub defines: bool,
-    pub above: bool,
 }
 
 pub fn form_of(kind: Kind) -> Form
@@ -27,25 +26,21 @@ pub fn form_of(kind: Kind) -> Form
             fewest: 1,
             most: 1,
             defines: true,
-            above: false,
         },
         Kind::Latch => Form {
             fewest: 2,
             most: 2,
             defines: true,
-            above: false,
         },
         Kind::Output => Form {
             fewest: 1,
             most: 1,
             defines: false,
-            above: false,
         },
         Kind::Gate => Form {
             fewest: 3,
             most: 3,
             defines: true,
-            above: true,
         },
     }
 }

@@ -79,7 +79,8 @@ fn put_circuit(out: &mut [u8], c: Circuit) -> usize
     let gate = c.gate;
     let left = c.left;
     let right = c.right;
-    let fourth = put_gates(out, third, &gate, &left, &right, gates);
+    let lines = c.lines;
+    let fourth = put_gates(out, third, &gate, &left, &right, &lines, gates);
     let controllable = c.controllable;
     put_names(out, fourth, &controllable, inputs)
 }

@@ -12,7 +12,7 @@ ghost use Rattle.bits.specs.Wrote.{Wrote};
 ghost use Rattle.circuit.specs.Limits.{base};
 ghost use Rattle.circuit.specs.Stored.{literalOf};
 ghost use Rattle.text.specs.Number.{decimal};
-ghost use Rattle.printer.specs.contracts.Line.{longestNumber, longestLine, inputLine, latchLine, gateLine, nameLine};
+ghost use Rattle.printer.specs.contracts.Line.{longestNumber, longestLine, inputLine, latchLine, gateLine, gateNumber, gateOnLine, nameLine};
 
 pub(crate) fn put_inputs(out: &mut [u8], at: usize, input: &[u16], n: usize) -> usize
     requires { ⌜ at < 2 ^ 30 ⌝ }
@@ -53,26 +53,48 @@ fn put_latch(out: &mut [u8], at: usize, latch: &[u16], next: &[u16], i: usize) -
     put_number(out, own, literal_at(next, i), b'\n')
 }
 
+// The gates in the order of the file's lines (02, T-01).
 pub(crate) fn put_gates(
     out: &mut [u8],
     at: usize,
     gate: &[u16],
     left: &[u16],
     right: &[u16],
+    lines: &[u16],
     n: usize,
 ) -> usize
     requires { ⌜ at < 2 ^ 30 ⌝ }
     requires { ⌜ n ≤ base .variable ⌝ }
-    ensures { λ r. ⌜ Wrote (inTurn (gateLine (now (gate .entry)) (now (left .entry)) (now (right .entry))) n) at (now (out .entry)) (now (out .exit)) r ⌝ }
+    ensures { λ r. ⌜ Wrote (inTurn (gateOnLine (now (gate .entry)) (now (left .entry)) (now (right .entry)) (now (lines .entry)) n) n) at
+        (now (out .entry)) (now (out .exit)) r ⌝ }
     ensures { λ r. ⌜ r ≤ at + longestLine * n ⌝ }
 {
     let mut behind = at;
     let mut i = 0;
     while i < n {
-        behind = put_gate(out, behind, gate, left, right, i);
+        behind = put_gate(out, behind, gate, left, right, gate_number(lines, i, n));
         i += 1;
     }
     behind
+}
+
+fn wide(x: u16) -> usize
+    ensures { λ r. ⌜ r ≡ x ⌝ }
+{
+    x as usize
+}
+
+// The gate that stands on line i of n; one that isn't there lies behind all lists.
+fn gate_number(lines: &[u16], i: usize, n: usize) -> usize
+    ensures { λ r. ⌜ r ≡ gateNumber (now (lines .entry)) n i ⌝ }
+{
+    if i < lines.len() {
+        let gate = wide(lines[i]);
+        if gate < n {
+            return gate;
+        }
+    }
+    Circuit::VARIABLES
 }
 
 fn put_gate(out: &mut [u8], at: usize, gate: &[u16], left: &[u16], right: &[u16], i: usize) -> usize

@@ -1,8 +1,11 @@
 pub mod BodyLoop
 pub mod ColumnLoop
+pub mod DefinersLoop
 pub mod FileLoop
+pub mod GatesPlaced
 pub mod Lined
 pub mod Place
+pub mod PlacesLoop
 pub mod ReadLoop
 pub mod RowsFile
 pub mod Sections

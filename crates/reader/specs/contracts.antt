@@ -1,7 +1,9 @@
 pub mod AllLines
 pub mod BodyAs
 pub mod CountedAs
+pub mod Definers
 pub mod LinesAs
+pub mod PlacedAs
 pub mod Rows
 pub mod SymbolsAs
 pub mod TextAs

@@ -12,7 +12,6 @@ use circuit::Refusal;
 use circuit::counts::controllable_count;
 use circuit::counts::too_many;
 use circuit::counts::uncontrollable_count;
-use fields::line::Cursor;
 use fields::line::line_end;
 use lines::header::Headed;
 use lines::header::Header;
@@ -28,6 +27,21 @@ ghost use Rattle.reader.specs.contracts.CountedAs.{CountedAs};
 ghost use Rattle.reader.specs.contracts.LinesAs.{LinesRoom, LinesAs};
 ghost use Rattle.text.specs.Header.{withinLimits};
 ghost use Rattle.text.specs.Read.{circuitRead};
+
+// Two numbers for each gate, and a place for each variable.
+const USES: usize = 2 * Circuit::VARIABLES;
+
+fn no_uses() -> [u16; USES]
+    ensures { λ r. ⌜ r ≡ table (λ i. 0) (2 * base .variable) ⌝ }
+{
+    [0u16; USES]
+}
+
+fn no_places() -> [u16; Circuit::VALUES]
+    ensures { λ r. ⌜ r ≡ table (λ i. 0) (base .variable + 1) ⌝ }
+{
+    [0u16; Circuit::VALUES]
+}
 
 // As many numbers as the rows of a circuit's lines have: three for each variable that a line defines, and for the output.
 const ROWS: usize = 3 * Circuit::VALUES;
@@ -78,6 +92,7 @@ fn refused(number: u8, place: usize) -> FileRead
         gate,
         left: gate,
         right: gate,
+        lines: gate,
     };
     FileRead {
         answer: Read::Refused(Refusal { number, place }),
@@ -106,17 +121,34 @@ fn counted(circuit: Circuit, inputs: usize) -> FileRead
 }
 
 // The lines behind a header within the limits, and the circuit that they make.
-fn read_lines(s: &[u8], from: Cursor, h: Header) -> FileRead
-    requires { ⌜ LinesRoom (now s) from (said h) ⌝ }
-    ensures { λ r. ⌜ LinesAs (said h) (now (s .entry)) from r ⌝ }
+fn read_lines(s: &[u8], h: Header) -> FileRead
+    requires { ⌜ LinesRoom (now s) (said h) ⌝ }
+    ensures { λ r. ⌜ LinesAs (said h) (now (s .entry)) r ⌝ }
 {
     let mut defined = no_marks();
     let mut rows = no_rows();
     let mut named = no_names();
     let mut flags = no_flags();
-    match text_lines(s, from, h, &mut defined, &mut rows, &mut named, &mut flags) {
+    let mut uses = no_uses();
+    let mut order = no_places();
+    match text_lines(
+        s,
+        h,
+        &mut defined,
+        &mut rows,
+        &mut named,
+        &mut flags,
+        &mut uses,
+        &mut order,
+    ) {
         Reached::Refused(r) => refused(r.number, r.place),
-        Reached::At(_) => counted(circuit_of(h, &rows, flags), h.inputs as usize),
+        Reached::At(_) => {
+            let gates = h.gates as usize;
+            counted(
+                circuit_of(h, &rows, &order[..gates], flags),
+                h.inputs as usize,
+            )
+        }
     }
 }
 
@@ -151,7 +183,7 @@ pub fn read(file: &[u8]) -> FileRead
         return refused(2, 1);
     };
     if within(h) {
-        return read_lines(file, Cursor { at: end, line: 2 }, h);
+        return read_lines(&file[end..], h);
     }
     refused(3, 1)
 }

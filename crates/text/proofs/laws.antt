@@ -1,5 +1,6 @@
 pub mod Alarms
 pub mod Used
+pub mod Circle
 pub mod Outcome
 pub mod Lists
 pub mod Run
@@ -11,6 +12,11 @@ pub mod Rules
 pub mod Symbol
 pub mod SymbolRule
 pub mod Lines
+pub mod GateUses
+pub mod Above
+pub mod InTurn
+pub mod Standing
+pub mod GateOrder
 pub mod Complete
 pub mod Stages
 pub mod Sound
@@ -21,6 +27,7 @@ pub mod NoSymbol
 pub mod BodyBroken
 pub mod FaultLine
 pub mod Exact
+pub mod SameCircuit
 pub mod PrintedSymbols
 pub mod Size
 pub mod PrintedReadsBack

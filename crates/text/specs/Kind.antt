@@ -2,6 +2,7 @@
 use Prim.Native.Nat.{ℕ}
 use mathlib.Core.List.{List, [], _∷_, _++_, map}
 use lib.ListN.{getD, replicate}
+use Rattle.circuit.specs.Circuit.{Latch, Gate}
 use Rattle.circuit.specs.Literal.{variable}
 use Rattle.text.specs.Header.{Header}
 
@@ -29,12 +30,12 @@ defining aLatch fs = getD fs 0 0 ∷ []
 defining theOutput fs = []
 defining aGate fs = getD fs 0 0 ∷ []
 
--- and a gate's operands
-abbrev pub operands : Kind → List ℕ → List ℕ
-operands anInput fs = []
-operands aLatch fs = []
-operands theOutput fs = []
-operands aGate fs = getD fs 1 0 ∷ getD fs 2 0 ∷ []
+-- and those that it uses: a next state, the output, a gate's operands
+abbrev pub usedBy : Kind → List ℕ → List ℕ
+usedBy anInput fs = []
+usedBy aLatch fs = getD fs 1 0 ∷ []
+usedBy theOutput fs = getD fs 0 0 ∷ []
+usedBy aGate fs = getD fs 1 0 ∷ getD fs 2 0 ∷ []
 
 -- the variables that a line defines, and lines
 abbrev pub definedBy : Kind → List ℕ → List ℕ
@@ -44,3 +45,16 @@ abbrev pub definedByAll : List Kind → List (List ℕ) → List ℕ
 definedByAll [] rows = []
 definedByAll (k ∷ ks) [] = []
 definedByAll (k ∷ ks) (fs ∷ rows) = definedBy k fs ++ definedByAll ks rows
+
+-- what lines use, a list for each
+abbrev pub usedByAll : List Kind → List (List ℕ) → List (List ℕ)
+usedByAll [] rows = []
+usedByAll (k ∷ ks) [] = []
+usedByAll (k ∷ ks) (fs ∷ rows) = usedBy k fs ∷ usedByAll ks rows
+
+-- the latch and the gate that a line says
+unfoldable pub latchOf : List ℕ → Latch
+latchOf fs = record { own = getD fs 0 0; next = getD fs 1 0 }
+
+unfoldable pub gateOf : List ℕ → Gate
+gateOf fs = record { own = getD fs 0 0; left = getD fs 1 0; right = getD fs 2 0 }

@@ -5,12 +5,14 @@ pub mod Header
 pub mod Rules
 pub mod Section
 pub mod Symbol
+pub mod GateUses
 pub mod TextFile
 pub mod Stages
 pub mod Read
 pub mod Written
 pub mod InList
 pub mod WellFormed
+pub mod Above
 pub mod Printed
 pub mod Headed
 pub mod Within
@@ -19,6 +21,7 @@ pub mod LineIs
 pub mod LineFault
 pub mod FirstFault
 pub mod Unknown
+pub mod Circle
 pub mod SymbolRight
 pub mod NoSymbol
 pub mod BodyBroken

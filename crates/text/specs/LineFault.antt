@@ -1,14 +1,13 @@
--- What is wrong with a line before the symbols (01, "The numbers", 4 to 7), and the order within a line: 4, 5, 6 and, for gate operands, 7, each
--- only if none before it applies. Assumes nothing.
+-- What is wrong with a line before the symbols (01, "The numbers", 4 to 6), and the order within a line: 4, 5, 6, each only if none before it
+-- applies. Assumes nothing.
 use Prim.Native.Nat.{ℕ, _+_, _*_, _%_, _<_}
 use mathlib.Core.List.{List}
 use mathlib.Core.Path.{_≡_}
 use Rattle.circuit.specs.Literal.{variable}
 use Rattle.text.specs.InList.{In}
-use Rattle.text.specs.Kind.{Kind, numbersIn, defining, operands}
+use Rattle.text.specs.Kind.{Kind, numbersIn, defining}
 use Rattle.text.specs.LineIs.{LineIs, Malformed}
-use Rattle.text.specs.Numbers.{badLine, badLiteral, definedTwice, notDefined}
-use Rattle.text.specs.WellFormed.{Known}
+use Rattle.text.specs.Numbers.{badLine, badLiteral, definedTwice}
 
 -- 5: a literal too large, or a defining one odd or 0
 pub data BadLiteral (M : ℕ) (kind : Kind) (fs : List ℕ) : Type 0 where
@@ -19,10 +18,6 @@ pub data BadLiteral (M : ℕ) (kind : Kind) (fs : List ℕ) : Type 0 where
 -- 6: a variable that a line above defines
 abbrev pub Twice : Kind → (defined fs : List ℕ) → Type 0
 Twice kind defined fs = (l : ℕ) × In (defining kind fs) l × In defined (variable l)
-
--- 7: an operand that is neither a constant nor defined by a line above
-abbrev pub UnknownOperand : Kind → (defined fs : List ℕ) → Type 0
-UnknownOperand kind defined fs = (l : ℕ) × In (operands kind fs) l × (Known defined l → ⊥)
 
 -- a line's number, given the variables that the lines above define
 pub data LineFault (M : ℕ) (kind : Kind) (defined line : List ℕ) (number : ℕ) : Type 0 where
@@ -35,14 +30,9 @@ pub data LineFault (M : ℕ) (kind : Kind) (defined line : List ℕ) (number : �
       number ≡ definedTwice → (fs : List ℕ) → LineIs (numbersIn kind) line fs
       → (BadLiteral M kind fs → ⊥) → Twice kind defined fs
       → LineFault M kind defined line number
-  seven :
-      number ≡ notDefined → (fs : List ℕ) → LineIs (numbersIn kind) line fs
-      → (BadLiteral M kind fs → ⊥) → (Twice kind defined fs → ⊥) → UnknownOperand kind defined fs
-      → LineFault M kind defined line number
 
 -- a line of these numbers to which none applies
 pub record LineRight (M : ℕ) (kind : Kind) (defined line fs : List ℕ) : Type 0 where
   pub is : LineIs (numbersIn kind) line fs
   pub literals : BadLiteral M kind fs → ⊥
   pub once : Twice kind defined fs → ⊥
-  pub known : UnknownOperand kind defined fs → ⊥

@@ -1,4 +1,4 @@
--- The numbers of a file's refusals (01, "The numbers", 1 to 9). Assumes nothing.
+-- The numbers of a file's refusals (01, "The numbers", 1 to 9; 02, T-01). Assumes nothing.
 use Prim.Native.Nat.{ℕ}
 
 abbrev pub fileTooLong : ℕ
@@ -27,3 +27,6 @@ badSymbol = 8
 
 abbrev pub tooManyInputs : ℕ
 tooManyInputs = 9
+
+abbrev pub gateCircle : ℕ
+gateCircle = 16

@@ -5,7 +5,7 @@ use mathlib.Core.Bool.{cond}
 use mathlib.Core.List.{List, [], _∷_, _++_, map}
 use mathlib.Core.Option.{none}
 use Rattle.circuit.specs.Answer.{fitted}
-use Rattle.circuit.specs.Circuit.{Circuit, Input}
+use Rattle.circuit.specs.Circuit.{Circuit, Input, gateLines}
 use Rattle.circuit.specs.Outcome.{Outcome}
 use Rattle.text.specs.Number.{decimal}
 use Rattle.text.specs.Symbol.{Symbol, inputLetter, prefix}
@@ -26,7 +26,7 @@ printedFile c =
       inputs = map (λ (i : Input). i .own) (c .inputs);
       latches = c .latches;
       output = c .output;
-      gates = c .gates;
+      gates = gateLines c;
       symbols = printedSymbols zero (c .inputs);
       comment = none;
     }

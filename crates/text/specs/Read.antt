@@ -1,24 +1,19 @@
--- The result of reading any list of bytes (01, "The numbers": 1, 2, 3; lines in file order; late 7; symbols; 9). Assumes nothing.
+-- The result of reading any list of bytes (01, "The numbers": 1, 2, 3; lines in file order; late 7; 02, T-01: 16; symbols; 9). Assumes nothing.
 use Prim.Native.Nat.{ℕ}
 use mathlib.Core.Bool.{not}
 use mathlib.Core.List.{List, [], map}
 use mathlib.Core.Option.{Option, none, some}
 use lib.Dec.{ltb}
 use lib.ListN.{length, getD, drop}
-use Rattle.circuit.specs.Circuit.{Circuit, Latch, Gate, tooMany}
+use Rattle.circuit.specs.Circuit.{Circuit, tooMany}
 use Rattle.circuit.specs.Limits.{Limits}
 use Rattle.circuit.specs.Outcome.{Outcome, taken, refused, _>>=_, _>>_, refuseIf}
 use Rattle.text.specs.Header.{Header, headerNumbers, headerOf, withinLimits}
+use Rattle.text.specs.Kind.{latchOf, gateOf}
 use Rattle.text.specs.Line.{lines}
 use Rattle.text.specs.Numbers.{fileTooLong, badHeader, headerLimit, tooManyInputs}
-use Rattle.text.specs.Stages.{inputSection, latchSection, outputSection, gateSection, lateStage, symbolStage}
+use Rattle.text.specs.Stages.{inputSection, latchSection, outputSection, gateSection, lateStage, circleStage, symbolStage}
 use Rattle.text.specs.TextFile.{TextFile, circuitOf}
-
-unfoldable pub latchOf : List ℕ → Latch
-latchOf fs = record { own = getD fs 0 0; next = getD fs 1 0 }
-
-unfoldable pub gateOf : List ℕ → Gate
-gateOf fs = record { own = getD fs 0 0; left = getD fs 1 0; right = getD fs 2 0 }
 
 -- 2 at 1 where the first line has not the form
 unfoldable pub orBadHeader : Option (List ℕ) → Outcome Header
@@ -33,6 +28,7 @@ linesRead h rest = do
   output ← outputSection h latches
   gates ← gateSection h output
   lateStage h latches output gates
+  circleStage h gates
   behind ← symbolStage h gates
   taken (record {
     largest = h .largest;

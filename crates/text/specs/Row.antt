@@ -1,5 +1,5 @@
--- The table of numbers, 1 to 9, as a statement (01, "The numbers"): a number with its place, and exactly when they are given, in the table's
--- order: 1, 2, 3; then 4 to 8 by the lines; then 9. Assumes nothing.
+-- The table of numbers, 1 to 9 and 16, as a statement (01, "The numbers"; 02, T-01): a number with its place, and exactly when they are given, in
+-- the table's order: 1, 2, 3; then 4 to 8, 16 before 8, by the lines; then 9. Assumes nothing.
 use Prim.Native.Nat.{ℕ, _<_, _≤_}
 use mathlib.Core.List.{List}
 use mathlib.Core.Path.{_≡_}

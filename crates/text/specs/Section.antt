@@ -1,5 +1,5 @@
--- The lines before the symbols (01, "The file", rule 2; "The numbers": lines in file order, each 4, 5, 6 and, for gate operands, 7; then 7
--- for latches and the output in file order). A missing line counts as an empty one. Assumes nothing.
+-- The lines before the symbols (01, "The file", rule 2; "The numbers": lines in file order, each 4, 5, 6; 02, T-01: then 7 for what latches, the
+-- output and gates use, in file order). A missing line counts as an empty one. Assumes nothing.
 use Prim.Native.Nat.{ℕ, zero, suc}
 use mathlib.Core.Bool.{cond}
 use mathlib.Core.List.{List, [], _∷_, _++_}
@@ -9,7 +9,7 @@ use Rattle.circuit.specs.Literal.{variable}
 use Rattle.circuit.specs.Outcome.{Outcome, taken, refused, _>>=_, _>>_, refuseIf}
 use Rattle.text.specs.Line.{numbersOf}
 use Rattle.text.specs.Numbers.{badLine, notDefined}
-use Rattle.text.specs.Rules.{Rule, unknown}
+use Rattle.text.specs.Rules.{Rule, anyUnknown}
 
 -- what a line's numbers come to: a malformed line is 4, then their first fault
 unfoldable pub judged : Rule → List ℕ → ℕ → Option (List ℕ) → Outcome (List ℕ)
@@ -42,7 +42,7 @@ section rule (suc n) place b =
 unfoldable pub onward : Body → Body
 onward b = record { rows = []; defined = b .defined; rest = b .rest }
 
--- the late 7: literals used on the lines from a place on, one to a line
-unfoldable pub used : List ℕ → ℕ → List ℕ → Outcome (Unit {0})
+-- the late 7: literals used on the lines from a place on, a list for each line
+unfoldable pub used : List ℕ → ℕ → List (List ℕ) → Outcome (Unit {0})
 used defined place [] = taken tt
-used defined place (l ∷ ls) = refuseIf (unknown defined l) notDefined place >> used defined (suc place) ls
+used defined place (ls ∷ rest) = refuseIf (anyUnknown defined ls) notDefined place >> used defined (suc place) rest

@@ -1,4 +1,4 @@
--- What document 01 asks of a file (01, "The file", rules 1 to 6, and the limits), rule by rule, of a file given by its numbers, names and
+-- What document 01 asks of a file (01, "The file", rules 1 to 6, and the limits; 02, T-01), rule by rule, of a file given by its numbers, names and
 -- comment; Written.textOf says what is written down for it. Nothing is read here. Assumes nothing.
 use Prim.Native.Nat.{ℕ, _+_, _*_, _%_, _^_, _<_, _≤_}
 use mathlib.Core.List.{List, [], _∷_, _++_, map}
@@ -8,6 +8,8 @@ use lib.ListN.{length}
 use Rattle.circuit.specs.Circuit.{Latch, Gate}
 use Rattle.circuit.specs.Limits.{Limits}
 use Rattle.circuit.specs.Literal.{variable}
+use Rattle.order.specs.Reaches.{Reaches}
+use Rattle.text.specs.GateUses.{usesOf}
 use Rattle.text.specs.InList.{All, Pairs, In}
 use Rattle.text.specs.Symbol.{Symbol, inputLetter, latchLetter, outputLetter}
 use Rattle.text.specs.TextFile.{TextFile}
@@ -32,10 +34,9 @@ pub record GateLine (M : ℕ) (g : Gate) : Type 0 where
 abbrev pub Known : List ℕ → ℕ → Type 0
 Known defined l = (l < 2) ⊎ In defined (variable l)
 
--- rule 4: an operand is a constant, or its variable is among those above its gate's line: these, and the gates of earlier lines
-abbrev pub Operands : List ℕ → List Gate → Type 0
-Operands above [] = Unit {0}
-Operands above (g ∷ gs) = Known above (g .left) × Known above (g .right) × Operands (above ++ (variable (g .own) ∷ [])) gs
+-- rule 4, as 02, T-01 mends it: some gate reaches itself through gates
+abbrev pub ReachesItself : List Gate → (gate : ℕ) → Type 0
+ReachesItself gates i = Reaches (usesOf gates) (length gates) i i
 
 -- the variables that inputs and latches define, and all that the file defines, in file order
 abbrev pub ofInputsAndLatches : TextFile → List ℕ
@@ -78,7 +79,8 @@ pub record WellFormed (limits : Limits) (f : TextFile) : Type 0 where
   pub gates : All (GateLine (f .largest)) (f .gates)
   -- rule 4
   pub once : Pairs (λ v w. v ≢ w) (definedIn f)
-  pub operands : Operands (ofInputsAndLatches f) (f .gates)
+  pub operands : All (λ (g : Gate). Known (definedIn f) (g .left) × Known (definedIn f) (g .right)) (f .gates)
+  pub noCircle : (i : ℕ) → ReachesItself (f .gates) i → ⊥
   pub nexts : All (λ (l : Latch). Known (definedIn f) (l .next)) (f .latches)
   pub error : Known (definedIn f) (f .output)
   -- rule 5; rule 6 leaves the comment free

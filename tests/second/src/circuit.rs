@@ -40,6 +40,8 @@ pub struct Circuit {
     pub latches: Vec<Latch>,
     pub output: usize,
     pub gates: Vec<Gate>,
+    /// The gates in an order in which operands come first; it follows from them.
+    pub order: Vec<usize>,
 }
 
 impl Circuit {

@@ -68,7 +68,7 @@ impl Count {
              unrealizable {}\nunrealizable with a reset rank above 2 {}\n",
             self.realizable, self.with_a_state_outside, self.unrealizable, self.with_a_rank_above_2
         );
-        self.add_numbers(&mut text, &[1, 2, 3, 4, 5, 6, 7, 8, 9]);
+        self.add_numbers(&mut text, &[1, 2, 3, 4, 5, 6, 7, 8, 9, 16]);
         text
     }
 
@@ -80,8 +80,11 @@ impl Count {
         for (name, count) in departures::NAMES.iter().zip(self.departures) {
             text.push_str(&format!("passed with {name} {count}\n"));
         }
-        let circuit_numbers: usize = (1..=9).map(|number| self.of_number(number)).sum();
-        text.push_str(&format!("refused 1 to 9 {circuit_numbers}\n"));
+        let circuit_numbers: usize = (1..=9)
+            .chain([16])
+            .map(|number| self.of_number(number))
+            .sum();
+        text.push_str(&format!("refused 1 to 9 and 16 {circuit_numbers}\n"));
         self.add_numbers(&mut text, &[11, 12, 13, 14, 15]);
         text
     }

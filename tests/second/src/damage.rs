@@ -1,6 +1,6 @@
 //! Document 01, "Listings to compare": files and certificates to compare
 //! with, made from a seed alone: well-formed files, damaged files (numbers 1
-//! to 9), damaged certificates (11 to 15), and certificates that pass though
+//! to 9 and 16), damaged certificates (11 to 15), and certificates that pass though
 //! the writer wouldn't write them.
 
 pub mod bad_symbols;
@@ -22,20 +22,21 @@ use random::Random;
 use wanted::Wanted;
 
 /// What the file of an index is to be; each row a share of 100.
-const FILES: [(usize, Kind); 14] = [
-    (16, Kind::Good(Wanted::HoldsEverywhere)),
-    (17, Kind::Good(Wanted::HoldsInPart)),
-    (15, Kind::Good(Wanted::LosesSoon)),
-    (17, Kind::Good(Wanted::LosesLate)),
+const FILES: [(usize, Kind); 15] = [
+    (15, Kind::Good(Wanted::HoldsEverywhere)),
+    (16, Kind::Good(Wanted::HoldsInPart)),
+    (14, Kind::Good(Wanted::LosesSoon)),
+    (16, Kind::Good(Wanted::LosesLate)),
     (4, Kind::Bad(1)),
     (3, Kind::Bad(2)),
     (3, Kind::Bad(3)),
     (3, Kind::Bad(4)),
     (4, Kind::Bad(5)),
     (5, Kind::Bad(6)),
-    (3, Kind::Bad(7)),
+    (4, Kind::Bad(7)),
     (4, Kind::Bad(8)),
-    (5, Kind::Bad(9)),
+    (4, Kind::Bad(9)),
+    (4, Kind::Bad(16)),
     (1, Kind::AnyByte),
 ];
 

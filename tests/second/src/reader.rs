@@ -1,7 +1,8 @@
 //! Document 01, "The numbers", the sentence "Order": any bytes become a
-//! circuit or one of the numbers 1 to 9 with its place.
+//! circuit or one of the numbers 1 to 9 and 16 with its place.
 
 mod body;
+mod circles;
 mod header;
 mod lines;
 mod symbols;
@@ -31,6 +32,7 @@ pub fn read(file: &[u8]) -> Result<Circuit, Refusal> {
         latches: body.latches,
         output: body.output,
         gates: body.gates,
+        order: body.order,
     };
     if circuit.uncontrollable_count() > Circuit::UNCONTROLLABLE
         || circuit.controllable_count() > Circuit::CONTROLLABLE

@@ -35,7 +35,7 @@ pub fn step(circuit: &Circuit, state: usize, reading: Reading, control: Control)
     for (k, latch) in circuit.latches.iter().enumerate() {
         values[latch.literal / 2] = state >> k & 1 == 1;
     }
-    for gate in &circuit.gates {
+    for gate in circuit.order.iter().map(|&line| &circuit.gates[line]) {
         values[gate.literal / 2] = value(&values, gate.left) && value(&values, gate.right);
     }
     let mut next = 0;

@@ -9,16 +9,22 @@ use Rattle.bits.specs.Digits.{digits, sum}
 use Rattle.below.specs.Among.{among, member}
 use Rattle.below.specs.Least.{least, any, every}
 use Rattle.below.specs.Table.{table}
-use Rattle.circuit.specs.Circuit.{inputsThat, latchCount, uncontrollableCount, controllableCount, tooMany}
+use Rattle.circuit.specs.Circuit.{gateAt, inputsThat, latchCount, uncontrollableCount, controllableCount, tooMany}
 use Rattle.circuit.specs.Literal.{variable, inverted, constant, mayDefine, tooLarge}
 use Rattle.circuit.specs.Outcome.{refuseIf}
 use Rattle.circuit.specs.Reset.{isReset}
+use Rattle.order.specs.Circle.{from, meetsItself, lowestCircle}
+use Rattle.order.specs.Place.{placeIn}
+use Rattle.order.specs.Placing.{marked, waits, visit, visits, placed, orderOf}
+use Rattle.text.specs.GateUses.{definer, usesOf, evaluation, evaluated}
 use Rattle.text.specs.Header.{headerNumbers, headerOf, withinLimits}
+use Rattle.text.specs.Kind.{latchOf, gateOf}
 use Rattle.text.specs.Line.{before, lines, prepend, fields, separators, numbersOf}
 use Rattle.text.specs.Number.{isDigit, run, isNumeral, decimalValue, number, decimalWithin, decimal}
-use Rattle.text.specs.Read.{latchOf, gateOf, orBadHeader, linesRead, fileRead, circuitRead}
-use Rattle.text.specs.Rules.{firstOf, badOwn, isDefined, unknown, inputRule, latchRule, outputRule, gateRule}
+use Rattle.text.specs.Read.{orBadHeader, linesRead, fileRead, circuitRead}
+use Rattle.text.specs.Rules.{firstOf, badOwn, isDefined, unknown, anyUnknown, inputRule, latchRule, outputRule, gateRule}
 use Rattle.text.specs.Section.{judged, withRow, section, onward, used}
+use Rattle.text.specs.Stages.{circled}
 use Rattle.text.specs.Symbol.{positions, isNameByte, isName, names, symbolAt, symbolOf, isComment, orBadSymbol, symbolLines, isControllableName, isControllable}
 use Rattle.text.specs.TextFile.{circuitOf}
 use Rattle.text.specs.Written.{numberLine}
@@ -49,7 +55,8 @@ pub starred-hold : map (λ (row : Row). answerTo (row .asked)) starred ≡ map (
 unfolding flatMap bit odd oneIf byteBit sameBytes startsWith digits sum among member least any every table inputsThat latchCount uncontrollableCount
     controllableCount variable inverted constant mayDefine tooLarge refuseIf isReset headerNumbers headerOf withinLimits before lines prepend fields
     separators numbersOf isDigit run isNumeral decimalValue number latchOf gateOf orBadHeader linesRead fileRead circuitRead firstOf badOwn isDefined
-    unknown inputRule latchRule outputRule gateRule judged withRow section onward used positions isNameByte isName names symbolAt symbolOf isComment
+    unknown anyUnknown inputRule latchRule outputRule gateRule judged withRow section onward used gateAt definer usesOf circled lowestCircle meetsItself
+    from marked waits visit visits placed orderOf placeIn evaluation evaluated positions isNameByte isName names symbolAt symbolOf isComment
     orBadSymbol symbolLines isControllableName isControllable circuitOf tooMany errorOf nextOf step literalValue put withInputs withLatches withGates
     valuation attack attackBroken circuitGame isRealizable keeps answered safe replyLine attackLine listingOf notRanked defeats defeated round
     ranksAfter rank inRegion reply replyBroken realizable attackLength storedRank storedAttack attackBytes recordOf contentsLength split regionLength

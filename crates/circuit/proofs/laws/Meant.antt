@@ -26,7 +26,7 @@ use Rattle.below.proofs.laws.Table.{table-same, table-getD}
 use Rattle.bits.specs.Bit.{oneIf}
 use Rattle.circuit.specs.Circuit.{Circuit, Input, Latch, Gate}
 use Rattle.circuit.specs.Limits.{base}
-use Rattle.circuit.specs.Stored.{literalOf, inputsOf, latchesOf, gatesOf, lent, meant, padded, stored}
+use Rattle.circuit.specs.Stored.{literalOf, inputsOf, latchesOf, gatesOf, lent, onLines, meant, padded, stored}
 use Rattle.circuit.proofs.laws.StoredLiteral.{literal-small}
 
 -- padding adds nothing but zeros
@@ -105,6 +105,7 @@ pub record Fits (c : Circuit) : Type 0 where
   pub gate : Literals (λ (g : Gate). g .own) (c .gates)
   pub left : Literals (λ (g : Gate). g .left) (c .gates)
   pub right : Literals (λ (g : Gate). g .right) (c .gates)
+  pub lines : length (c .lines) ≡ length (c .gates)
 
 module _ (c : Circuit) (fits : Fits c) where
   literal : {A : Type 0} (f : A → ℕ) (l : List A) (d : A) → f d ≡ 0 → Literals f l → (i : ℕ) → literalOf (getD (map f l) i 0) ≡ f (getD l i d)
@@ -216,9 +217,14 @@ module _ (c : Circuit) (fits : Fits c) where
             right = (ap literalOf (field-at right (base .variable) gs (fits .gates) i) ∙ literal right gs d refl (fits .right) i) j;
           }
 
+  lines-back : take (length (c .gates)) (padded (base .variable) (c .lines)) ≡ c .lines
+  lines-back =
+      subst (λ (m : ℕ). take m (padded (base .variable) (c .lines)) ≡ c .lines) (fits .lines)
+      (take-padded (base .variable) (c .lines) (omega (arith, fits .lines, fits .gates)))
+
   -- what is stored of a circuit within the limits stands for it
   pub meant-stored : meant (stored c) ≡ c
-  unfolding meant stored lent
+  unfolding meant stored lent onLines
   meant-stored =
       λ j.
       record {
@@ -227,4 +233,5 @@ module _ (c : Circuit) (fits : Fits c) where
         latches = latches-back j;
         output = literal-small (c .output) (fits .output) j;
         gates = gates-back j;
+        lines = lines-back j;
       }

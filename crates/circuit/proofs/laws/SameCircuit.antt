@@ -1,11 +1,11 @@
--- The same circuit is the same value: nothing else of a file is part of a circuit. Assumes nothing.
+-- A circuit is the same circuit as itself. Assumes nothing.
 use mathlib.Core.Path.{_≡_, refl, subst}
 use mathlib.Core.List.{List, [], _∷_, map}
 use Rattle.circuit.specs.Circuit.{Circuit, Input}
 use Rattle.circuit.specs.SameCircuit.{SameCircuit, SameHeader, SameLines}
 
 -- inputs with the same literals and flags are the same inputs
-same-inputs : (is js : List Input) → map (λ (i : Input). i .own) is ≡ map (λ (i : Input). i .own) js
+pub same-inputs : (is js : List Input) → map (λ (i : Input). i .own) is ≡ map (λ (i : Input). i .own) js
     → map (λ (i : Input). i .controllable) is ≡ map (λ (i : Input). i .controllable) js → is ≡ js
 same-inputs [] [] e f = refl
 same-inputs [] (j ∷ js) e f = cc
@@ -17,11 +17,6 @@ same-inputs (i ∷ is) (j ∷ js) e f =
     let flags : map (λ (k : Input). k .controllable) is ≡ map (λ (k : Input). k .controllable) js = cc in
     let rest : is ≡ js = same-inputs is js owns flags in
     λ x. record { own = own x; controllable = flag x } ∷ rest x
-
-pub same-is-equal : (c d : Circuit) → SameCircuit c d → c ≡ d
-same-is-equal c d s =
-    let inputs : c .inputs ≡ d .inputs = same-inputs (c .inputs) (d .inputs) (s .lines .inputs) (s .controllable) in
-    λ x. record { largest = s .header .largest x; inputs = inputs x; latches = s .lines .latches x; output = s .lines .output x; gates = s .lines .gates x }
 
 pub equal-is-same : (c d : Circuit) → c ≡ d → SameCircuit c d
 equal-is-same c d e = subst (SameCircuit c) e (record {

@@ -28,24 +28,22 @@ module _ (rule : Rule) (defined : List ℕ) (place : ℕ) (numbers : Option (Lis
     judged-faulty number e = rw (are, e, judged)
 
 -- a number that is 0 says that none applies, and another that it does
-pub none-of : (five six seven : Bool) → numberOr (firstOf five six seven) ≡ 0 → firstOf five six seven ≡ none
+pub none-of : (five six : Bool) → numberOr (firstOf five six) ≡ 0 → firstOf five six ≡ none
 unfolding numberOr firstOf
-none-of true six seven e = absurd (omega arith)
-none-of false true seven e = absurd (omega arith)
-none-of false false true e = absurd (omega arith)
-none-of false false false e = refl
+none-of true six e = absurd (omega arith)
+none-of false true e = absurd (omega arith)
+none-of false false e = refl
 
-pub some-of : (five six seven : Bool) → (numberOr (firstOf five six seven) ≡ 0 → ⊥) → firstOf five six seven ≡ some (numberOr (firstOf five six seven))
+pub some-of : (five six : Bool) → (numberOr (firstOf five six) ≡ 0 → ⊥) → firstOf five six ≡ some (numberOr (firstOf five six))
 unfolding numberOr firstOf
-some-of true six seven e = refl
-some-of false true seven e = refl
-some-of false false true e = refl
-some-of false false false e = absurd (e refl)
+some-of true six e = refl
+some-of false true e = refl
+some-of false false e = absurd (e refl)
 
-pub not-five : (five six seven : Bool) → numberOr (firstOf five six seven) ≡ 0 → five ≡ false
+pub not-five : (five six : Bool) → numberOr (firstOf five six) ≡ 0 → five ≡ false
 unfolding numberOr firstOf
-not-five true six seven e = absurd (omega arith)
-not-five false six seven e = refl
+not-five true six e = absurd (omega arith)
+not-five false six e = refl
 
 pub neither : (a b : Bool) → (a || b) ≡ false → (a ≡ false) × (b ≡ false)
 neither true b e = (e, cc)
@@ -65,19 +63,18 @@ module _ (M : ℕ) (marks defined : List ℕ) (says : Marks marks defined) where
   unfolding unknown unmarked
   unknown-unmarked l = ap (λ (b : Bool). not (constant l) && not b) (defined-marked l)
 
-  pub input-fault : (a : ℕ) → inputRule M .fault defined (a ∷ []) ≡ firstOf (badOwn M a) (marked marks a) false
+  pub input-fault : (a : ℕ) → inputRule M .fault defined (a ∷ []) ≡ firstOf (badOwn M a) (marked marks a)
   unfolding inputRule
-  input-fault a = ap (λ (b : Bool). firstOf (badOwn M a) b false) (defined-marked a)
+  input-fault a = ap (λ (b : Bool). firstOf (badOwn M a) b) (defined-marked a)
 
-  pub latch-fault : (a b : ℕ) → latchRule M .fault defined (a ∷ b ∷ []) ≡ firstOf (badOwn M a || tooLarge M b) (marked marks a) false
+  pub latch-fault : (a b : ℕ) → latchRule M .fault defined (a ∷ b ∷ []) ≡ firstOf (badOwn M a || tooLarge M b) (marked marks a)
   unfolding latchRule
-  latch-fault a b = ap (λ (x : Bool). firstOf (badOwn M a || tooLarge M b) x false) (defined-marked a)
+  latch-fault a b = ap (λ (x : Bool). firstOf (badOwn M a || tooLarge M b) x) (defined-marked a)
 
-  pub output-fault : (a : ℕ) → outputRule M .fault defined (a ∷ []) ≡ firstOf (tooLarge M a) false false
+  pub output-fault : (a : ℕ) → outputRule M .fault defined (a ∷ []) ≡ firstOf (tooLarge M a) false
   unfolding outputRule
   output-fault a = refl
 
   pub gate-fault : (a b c : ℕ) → gateRule M .fault defined (a ∷ b ∷ c ∷ []) ≡ firstOf (badOwn M a || tooLarge M b || tooLarge M c) (marked marks a)
-      (unmarked marks b || unmarked marks c)
   unfolding gateRule
-  gate-fault a b c = rw (defined-marked a, unknown-unmarked b, unknown-unmarked c)
+  gate-fault a b c = rw (defined-marked a)

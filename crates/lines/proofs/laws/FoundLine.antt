@@ -7,8 +7,8 @@ use mathlib.Core.Option.{none, some}
 use mathlib.Core.Path.{_≡_, refl, sym, ap, _∙_, subst}
 use lib.ListN.{getD, take}
 use borrow.Author.Tests.{le-ltb}
-use Rattle.circuit.specs.Literal.{constant, mayDefine, tooLarge}
-use Rattle.fields.specs.contracts.Marks.{marked, unmarked, Marks, numberOr}
+use Rattle.circuit.specs.Literal.{mayDefine, tooLarge}
+use Rattle.fields.specs.contracts.Marks.{marked, Marks, numberOr}
 use Rattle.fields.specs.contracts.RowAt.{IsRow}
 use Rattle.fields.proofs.laws.Judged.{judged-malformed, judged-fine, judged-faulty, none-of, some-of, not-five, neither, literal-below, input-fault}
 use Rattle.fields.proofs.laws.Judged.{latch-fault, output-fault, gate-fault}
@@ -57,10 +57,6 @@ module _ (M : ℕ) (marks : List ℕ) where
   unfolding tooLarge
   none-large = le-ltb (2 * M + 1) 0 (omega arith)
 
-  none-unknown : unmarked marks 0 ≡ false
-  unfolding unmarked constant
-  none-unknown = refl
-
   -- a literal that is too large is bad also where it doesn't define
   own-and-large : (t n x y : Bool) → ((t || n) || (t || (x || y))) ≡ ((t || n) || x || y)
   own-and-large true n x y = refl
@@ -78,25 +74,25 @@ module _ (M : ℕ) (marks : List ℕ) where
       let second : b ≡ 0 = others 1 (omega arith) in
       let third : c ≡ 0 = others 2 (omega arith) in
       input-fault M marks defined m a
-      ∙ ap (λ (x : Bool). firstOf x (marked marks a) false) (sym (fives a b c ∙ rw (second, third, none-large, or-false (badOwn M a)) (or-false (badOwn M a))))
+      ∙ ap (λ (x : Bool). firstOf x (marked marks a)) (sym (fives a b c ∙ rw (second, third, none-large, or-false (badOwn M a)) (or-false (badOwn M a))))
   kind-fault Latch defined m a b c others =
       latch-fault M marks defined m a b
-      ∙ ap (λ (x : Bool). firstOf x (marked marks a) false)
+      ∙ ap (λ (x : Bool). firstOf x (marked marks a))
       (sym (fives a b c ∙ rw (others 2 (omega arith), none-large) (or-false (badOwn M a || tooLarge M b))))
   kind-fault Output defined m a b c others =
       let second : b ≡ 0 = others 1 (omega arith) in
       let third : c ≡ 0 = others 2 (omega arith) in
-      output-fault M marks defined m a ∙ ap (λ (x : Bool). firstOf x false false) (sym (rw (second, third, none-large) (or-false (tooLarge M a))))
+      output-fault M marks defined m a ∙ ap (λ (x : Bool). firstOf x false) (sym (rw (second, third, none-large) (or-false (tooLarge M a))))
   kind-fault Gate defined m a b c others =
       gate-fault M marks defined m a b c
-      ∙ ap (λ (x : Bool). firstOf x (marked marks a) (unmarked marks b || unmarked marks c)) (sym (fives a b c))
+      ∙ ap (λ (x : Bool). firstOf x (marked marks a)) (sym (fives a b c))
 
   pub kind-below : (k : Kind) (a b c : ℕ) → ((i : ℕ) → ruleOf k M .count ≤ i → getD (a ∷ b ∷ c ∷ []) i 0 ≡ 0)
       → numberOr (faultOf (formOf k) M marks a b c) ≡ 0 → Literals M (ruleOf k M .count) a b c
   unfolding faultOf
   kind-below k a b c others e =
       let five = not-five ((formOf k .defines && badOwn M a) || (tooLarge M a || (tooLarge M b || tooLarge M c))) (formOf k .defines && marked marks a)
-      (formOf k .above && (unmarked marks b || unmarked marks c)) e in
+      e in
       let (own, large) = neither (formOf k .defines && badOwn M a) (tooLarge M a || (tooLarge M b || tooLarge M c)) five in
       let (first, rest) = neither (tooLarge M a) (tooLarge M b || tooLarge M c) large in
       let (second, third) = neither (tooLarge M b) (tooLarge M c) rest in
@@ -134,12 +130,12 @@ module _ (k : Kind) (M : ℕ) (marks line : List ℕ) (n a b c d e : ℕ) (row :
   unfolding faultOf
   kind-faulty number says h defined place m =
       judged-faulty (ruleOf k M) defined place (numbersOf (ruleOf k M .count) line) (take (ruleOf k M .count) (a ∷ b ∷ c ∷ [])) are number
-      (kind-fault M marks k defined m a b c others ∙ some-of _ _ _ (λ z. h (says ∙ z)) ∙ ap some (sym says))
+      (kind-fault M marks k defined m a b c others ∙ some-of _ _ (λ z. h (says ∙ z)) ∙ ap some (sym says))
 
   pub kind-row : numberOr (faultOf (formOf k) M marks a b c) ≡ 0 → LinedAs M (ruleOf k M) marks line (Row a b c)
   unfolding faultOf
   kind-row z = (
     λ defined place m. judged-fine (ruleOf k M) defined place (numbersOf (ruleOf k M .count) line) (take (ruleOf k M .count) (a ∷ b ∷ c ∷ [])) are
-        (kind-fault M marks k defined m a b c others ∙ none-of _ _ _ z),
+        (kind-fault M marks k defined m a b c others ∙ none-of _ _ z),
     kind-below M marks k a b c others z,
   )

@@ -5,7 +5,7 @@ use mathlib.Core.List.{List}
 use mathlib.Core.Option.{Option}
 use lib.Dec.{eqb, ltb}
 use Rattle.circuit.specs.Literal.{tooLarge}
-use Rattle.fields.specs.contracts.Marks.{marked, unmarked}
+use Rattle.fields.specs.contracts.Marks.{marked}
 use Rattle.lines.specs.declared.kind.Form.{Form}
 use Rattle.lines.specs.declared.kind.Kind.{Kind}
 use Rattle.lines.specs.declared.kind.Kind.the-variants.{Input, Latch, Output, Gate}
@@ -19,10 +19,10 @@ ruleOf Output M = outputRule M
 ruleOf Gate M = gateRule M
 
 abbrev pub formOf : Kind → Form
-formOf Input = record { fewest = 1; most = 1; defines = true; above = false }
-formOf Latch = record { fewest = 2; most = 2; defines = true; above = false }
-formOf Output = record { fewest = 1; most = 1; defines = false; above = false }
-formOf Gate = record { fewest = 3; most = 3; defines = true; above = true }
+formOf Input = record { fewest = 1; most = 1; defines = true }
+formOf Latch = record { fewest = 2; most = 2; defines = true }
+formOf Output = record { fewest = 1; most = 1; defines = false }
+formOf Gate = record { fewest = 3; most = 3; defines = true }
 
 -- the kind of line j behind the header
 unfoldable pub kindAt : Header → ℕ → Kind
@@ -34,4 +34,3 @@ unfoldable pub faultOf : Form → (M : ℕ) (marks : List ℕ) (own a b : ℕ) �
 faultOf form M marks own a b =
     firstOf ((form .defines && badOwn M own) || (tooLarge M own || (tooLarge M a || tooLarge M b)))
     (form .defines && marked marks own)
-    (form .above && (unmarked marks a || unmarked marks b))

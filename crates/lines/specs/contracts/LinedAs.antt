@@ -1,4 +1,4 @@
--- What the code's answer says of one line before the symbols (01, "The numbers": each 4, 5, 6 and, for gate operands, 7). Assumes nothing.
+-- What the code's answer says of one line before the symbols (01, "The numbers": each 4, 5, 6). Assumes nothing.
 use Prim.Native.Nat.{ℕ, _+_, _*_, _<_, _≤_}
 use mathlib.Core.List.{List, [], _∷_}
 use mathlib.Core.Path.{_≡_}

@@ -162,9 +162,9 @@ module _ (c : Circuit) where
             (omega (arith, w .fewControls)),
       )
 
-refusal-most : (number place : ℕ) → number < 10 → place < 10 ^ 5 → length (refusalText number place) ≤ 138258
+refusal-most : (number place : ℕ) → number < 10 ^ 2 → place < 10 ^ 5 → length (refusalText number place) ≤ 138258
 unfolding refusalText
-refusal-most number place n p = omega (arith, two-most number place 0 4 n p)
+refusal-most number place n p = omega (arith, two-most number place 1 4 n p)
 
 pub longest-page : (file : List ℕ) → length (pageOf file) ≤ 138258
 unfolding pageOf pageFor

@@ -4,8 +4,8 @@
 use Prim.Native.Nat.{ℕ, _*_, _^_, _<_, _≤_, min}
 use lib.Pow.{pow-mono}
 use mathlib.Core.Bool.{true, false, _&&_}
-use mathlib.Core.List.{List, []}
-use mathlib.Core.Logic.{_↔_, _⊎_}
+use mathlib.Core.List.{List, [], List·Memᴰ}
+use mathlib.Core.Logic.{_↔_, _⊎_, _≢_}
 use mathlib.Core.Path.{_≡_, sym, _∙_, subst}
 use lib.Dec.{ltb}
 use lib.ListN.{length, take, drop}
@@ -14,7 +14,7 @@ use Rattle.bits.specs.ByteBit.{byteBit}
 use Rattle.below.specs.Among.{member}
 use Rattle.bits.specs.Digits.{AllBelow}
 use Rattle.circuit.specs.Answer.{ReadAs, readOutcome, WrittenAs, writtenOutcome, countOf, bufferAfter}
-use Rattle.circuit.specs.Circuit.{Circuit, latchCount, uncontrollableCount, controllableCount, tooMany}
+use Rattle.circuit.specs.Circuit.{Circuit, Gate, latchCount, uncontrollableCount, controllableCount, tooMany}
 use Rattle.circuit.specs.Limits.{base}
 use Rattle.circuit.specs.Outcome.{taken, refused}
 use Rattle.circuit.specs.Reset.{isReset}
@@ -23,13 +23,16 @@ use Rattle.circuit.specs.declared.FileRead.{FileRead}
 use Rattle.circuit.specs.declared.Read.the-variants.{Taken}
 use Rattle.circuit.specs.declared.Written.{Written}
 use Rattle.circuit.proofs.laws.Answer.{read-decided, written-decided, refused-writes-nothing}
+use Rattle.text.specs.Above.{Operands}
+use Rattle.text.specs.InList.{All, Pairs}
 use Rattle.text.specs.Printed.{printed}
 use Rattle.text.specs.Row.{Row}
 use Rattle.text.specs.TextFile.{TextFile, circuitOf}
-use Rattle.text.specs.WellFormed.{WellFormed}
+use Rattle.text.specs.WellFormed.{WellFormed, Known, ReachesItself, ofInputsAndLatches, definedIn}
 use Rattle.text.specs.Written.{textOf}
 use Rattle.text.proofs.laws.TakenExactly.{taken-exactly, written-once}
 use Rattle.text.proofs.laws.Exact.{refused-exactly, taken-circuit}
+use Rattle.text.proofs.laws.GateOrder.{same-gates, gates-above, in-order-operands, in-order-no-circle, in-order-as-before}
 use Rattle.text.proofs.laws.Outcome.{taken-is}
 use Rattle.step.specs.Defined.{definedBy}
 use Rattle.step.specs.NextIn.{nextIn}
@@ -161,26 +164,26 @@ printer-refuses-exactly file before after r number place w = print-refused-exact
 -- A refusal's number is one of the table's, and never 0.
 pub reader-numbered :
     (file : List ℕ) (r : FileRead) (number place : ℕ) → ReadAs (circuitIn file) r → readOutcome (r .answer) ≡ refused number place
-    → (1 ≤ number) × (number ≤ 9)
+    → (1 ≤ number) × ((number ≤ 9) ⊎ (number ≡ 16))
 reader-numbered file r number place w e = file-numbered file number place (reader-refused-exactly file r number place w .0 e)
 
 pub checker-numbered :
     (file certificate : List ℕ) (a : Checked) (number place : ℕ) → checkedOutcome a ≡ answerOf file certificate
     → checkedOutcome a ≡ refused number place
-    → (1 ≤ number) × (number ≤ 15)
+    → (1 ≤ number) × (number ≤ 16)
 checker-numbered file certificate a number place w e = check-numbered file certificate number place (sym w ∙ e)
 
 pub writer-numbered :
     (kind : ℕ) (file before after : List ℕ) (r : Certified) (number place : ℕ) → CertifiedAs kind file (circuitIn file) before after r
     → certifiedOutcome r ≡ refused number place
-    → (1 ≤ number) × (number ≤ 10)
+    → (1 ≤ number) × ((number ≤ 10) ⊎ (number ≡ 16))
 writer-numbered kind file before after r number place w e =
     row-numbered file (certificateOf kind file) (length before) number place (certify-refused-exactly kind file before after r number place w .0 e)
 
 pub printer-numbered :
     (file before after : List ℕ) (r : Written) (number place : ℕ) → WrittenAs (filePrinted file (length before)) before after r
     → writtenOutcome r ≡ refused number place
-    → (1 ≤ number) × (number ≤ 10)
+    → (1 ≤ number) × ((number ≤ 10) ⊎ (number ≡ 16))
 printer-numbered file before after r number place w e = row-numbered file printed (length before) number place
     (print-refused-exactly file before after r number place w .0 e)
 
@@ -231,6 +234,25 @@ text-of-one f g v w e = written-once f g v w e
 pub reader-stores : (file : List ℕ) (r : FileRead) → ReadAs (circuitIn file) r → r .answer ≡ Taken → (c : Circuit) × (circuitIn file ≡ taken c)
     × (meant (r .circuit) ≡ c) × (solvable (meant (r .circuit)) ≡ c)
 reader-stores file r w e = let m = taken-means file r w e in (m .circuit, m .read, m .meant-is, m .solvable-is)
+
+-- "operands may be any defined variable, evaluation follows dependency" (02, T-01): the gates of the circuit are those of the text's lines, each
+-- behind the gates that it uses. "Step answers for files already taken don't change": where operands stand above their gates (01, rule 4) a file
+-- is taken still, and its circuit has the gates in the order of their lines, as before.
+pub gates-of-lines : (f : TextFile) → WellFormed base f → (g : Gate) → List·Memᴰ g (circuitOf f .gates) ↔ List·Memᴰ g (f .gates)
+gates-of-lines f w = same-gates f (w .noCircle)
+
+pub gates-follow-dependency : (f : TextFile) → WellFormed base f → Operands (ofInputsAndLatches f) (circuitOf f .gates)
+gates-follow-dependency f w = gates-above f (w .noCircle) (w .operands)
+
+module _ (f : TextFile) (once : Pairs (λ v w. v ≢ w) (definedIn f)) (above : Operands (ofInputsAndLatches f) (f .gates)) where
+  pub operands-still-defined : All (λ (g : Gate). Known (definedIn f) (g .left) × Known (definedIn f) (g .right)) (f .gates)
+  operands-still-defined = in-order-operands f once above
+
+  pub still-no-circle : (i : ℕ) → ReachesItself (f .gates) i → ⊥
+  still-no-circle = in-order-no-circle f once above
+
+  pub gates-as-before : circuitOf f .gates ≡ f .gates
+  gates-as-before = in-order-as-before f once above
 
 -- What its lines mean in a step, by no order of evaluation (`Settled`): each latch and input has its bit of state, reading or control, and each
 -- gate is true exactly if both of its operands are. There is such a valuation, the one of the step; any two agree on each variable that the

@@ -10,7 +10,7 @@ use Rattle.below.proofs.laws.Table.{length-table}
 use Rattle.bits.proofs.laws.Wrote.{sets-front}
 use Rattle.circuit.specs.Circuit.{Circuit, Latch, Gate}
 use Rattle.circuit.specs.Limits.{base}
-use Rattle.circuit.specs.Stored.{meant, lent, latchesOf, gatesOf, literalOf}
+use Rattle.circuit.specs.Stored.{meant, onLines, lent, latchesOf, gatesOf, literalOf}
 use Rattle.circuit.specs.declared.Circuit.{Circuit as Value}
 use Rattle.circuit.proofs.laws.Inputs.{length-inputs}
 use Rattle.net.specs.InOrder.{InOrder}
@@ -22,7 +22,7 @@ use Rattle.net.proofs.laws.Made.{operands-long, over-zeros}
 
 -- a value of the code has room for no more than a circuit may have
 pub meant-room : (v : Value) → length (v .input) ≡ base .inputs → length (v .gate) ≡ base .variable → Room (meant v)
-unfolding meant lent latchesOf gatesOf
+unfolding meant onLines lent latchesOf gatesOf
 meant-room v i g =
     record {
       inputs = omega (arith, length-inputs (take (v .inputs) (v .input)) (v .controllable), length-take (v .inputs) (v .input), i);

@@ -11,7 +11,7 @@ use Rattle.bits.proofs.laws.Wrote.{sets-append, sets-set-past, sets-front}
 use Rattle.circuit.specs.Circuit.{Circuit, Input, Latch, Gate, inputsThat, latchCount, uncontrollableCount, controllableCount}
 use Rattle.circuit.specs.Limits.{base}
 use Rattle.circuit.specs.Literal.{variable}
-use Rattle.circuit.specs.Stored.{lent, meant, literalOf, inputsOf, latchesOf, gatesOf, padded}
+use Rattle.circuit.specs.Stored.{lent, onLines, meant, literalOf, inputsOf, latchesOf, gatesOf, padded}
 use Rattle.circuit.specs.declared.Circuit.{Circuit as Value}
 use Rattle.circuit.proofs.laws.Counted.{lent-counted}
 use Rattle.circuit.proofs.laws.Inputs.{inputs-parted, length-inputs}
@@ -51,6 +51,11 @@ over-zeros n net h =
         ∙ getD-table (λ i. 0) n (length net + i) 0 (omega (arith, length-drop (length net) zeros, long))
         ∙ sym (getD-take (n - length net) (replicate n 0) i 0 (omega (arith, length-drop (length net) zeros, long))
         ∙ getD-replicate n i 0 0 (omega (arith, length-drop (length net) zeros, long))))
+
+-- which lines its gates stand on isn't read
+lines-not-read : (lines : List ℕ) (c : Circuit) → netOf (onLines lines c) ≡ netOf c
+unfolding netOf allNames firstNames gateStart controllableCount uncontrollableCount latchCount onLines
+lines-not-read lines c = refl
 
 pub operands-long : (gs : List Gate) (v : ℕ) (names : Names) → length (operandsOf gs v names) ≡ 2 * length gs
 unfolding operandsOf
@@ -230,11 +235,14 @@ module _ (v : Value) (inputs latches gates controls : ℕ) (k : Counts v inputs 
   made = lent (v .largest) (take inputs (v .input)) (v .controllable) (take latches (v .latch)) (v .next) (v .output) (take gates (v .gate)) (v .left)
       (v .right)
 
-  is-meant : made ≡ meant v
+  is-meant : netOf made ≡ netOf (meant v)
   unfolding made meant
-  is-meant = lent-counted (v .largest) (v .input) (v .controllable) (v .latch) (v .next) (v .output) (v .gate) (v .left) (v .right) (v .inputs) (v .latches)
-      (v .gates) inputs latches gates (k .inputs-read ∙ ap (min (v .inputs)) (sym (k .input-long))) (k .latches-read
-      ∙ ap (min (v .latches)) (sym (k .latch-long))) (k .gates-read ∙ ap (min (v .gates)) (sym (k .gate-long)))
+  is-meant =
+      ap netOf (lent-counted (v .largest) (v .input) (v .controllable) (v .latch) (v .next) (v .output) (v .gate) (v .left) (v .right) (v .inputs)
+      (v .latches) (v .gates) inputs latches gates (k .inputs-read ∙ ap (min (v .inputs)) (sym (k .input-long))) (k .latches-read
+      ∙ ap (min (v .latches)) (sym (k .latch-long))) (k .gates-read ∙ ap (min (v .gates)) (sym (k .gate-long))))
+      ∙ sym (lines-not-read (take (v .gates) (v .lines)) (lent (v .largest) (take (v .inputs) (v .input)) (v .controllable)
+      (take (v .latches) (v .latch)) (v .next) (v .output) (take (v .gates) (v .gate)) (v .left) (v .right)))
 
   pub controls-few : controls ≤ inputs
   controls-few = controls-most (v .largest) (v .input) (v .controllable) (v .latch) (v .next) (v .output) (v .gate) (v .left) (v .right) inputs latches
@@ -273,7 +281,7 @@ module _ (v : Value) (inputs latches gates controls : ℕ) (k : Counts v inputs 
           record {
             numbers = net-made (v .largest) (v .input) (v .controllable) (v .latch) (v .next) (v .output) (v .gate) (v .left) (v .right) inputs latches
                 gates controls i-room l-room g-room i-few l-few g-few (k .controls-read) m0 m1 m2 m3 n2 n3 out first-is all-is z p1 p2 po p3
-                ∙ ap (λ (c : Circuit). padded most (netOf c)) is-meant;
+                ∙ ap (padded most) is-meant;
             length = net-length (v .largest) (v .input) (v .controllable) (v .latch) (v .next) (v .output) (v .gate) (v .left) (v .right) inputs latches
-                gates controls i-room l-room g-room i-few l-few g-few (k .controls-read) ∙ ap (λ (c : Circuit). length (netOf c)) is-meant;
+                gates controls i-room l-room g-room i-few l-few g-few (k .controls-read) ∙ ap length is-meant;
           }

@@ -16,7 +16,7 @@ use Rattle.text.specs.Printed.{printedSymbols}
 use Rattle.text.specs.Symbol.{Symbol, inputLetter, prefix}
 use Rattle.text.specs.Written.{symbolLine}
 
-pub flat-map-map : {A : Type 0} (f : ℕ → List ℕ) (g : A → ℕ) (xs : List A) → flatMap f (map g xs) ≡ flatMap (λ x. f (g x)) xs
+pub flat-map-map : {A B : Type 0} (f : B → List ℕ) (g : A → B) (xs : List A) → flatMap f (map g xs) ≡ flatMap (λ x. f (g x)) xs
 unfolding flatMap
 flat-map-map f g [] = refl
 flat-map-map f g (x ∷ xs) = ap (λ (l : List ℕ). f (g x) ++ l) (flat-map-map f g xs)

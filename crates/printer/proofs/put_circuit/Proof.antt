@@ -6,7 +6,7 @@ use mathlib.Core.Path.{_≡_, sym, _∙_}
 use lib.ListN.{length, length-map, length-take}
 use Rattle.circuit.specs.Limits.{base}
 use Rattle.printer.proofs.laws.Line.{wrote-output}
-use Rattle.printer.proofs.laws.Printed.{printed-parts, wrote-printed}
+use Rattle.printer.proofs.laws.Printed.{Long, printed-parts, wrote-printed}
 use borrow.Author.Needs.{needs}
 use Rattle.printer.proofs.put_circuit.Statement.{statement}
 use Rattle.printer.proofs.put_circuit.Tie as tie
@@ -46,6 +46,12 @@ length-left s = omega (arith, simp length-map at (s .good .1 .0 .1 .1 .1 .1 .1 .
 length-right : (s : tie.Start) → length (s .args .c .right) ≡ base .variable
 length-right s = omega (arith, simp length-map at (s .good .1 .0 .1 .1 .1 .1 .1 .1 .1 .1 .1 .1 .1 .1 .1 .0 .1 .0 .1))
 
+length-lines : (s : tie.Start) → length (s .args .c .lines) ≡ base .variable
+length-lines s = omega (arith, simp length-map at (s .good .1 .0 .1 .1 .1 .1 .1 .1 .1 .1 .1 .1 .1 .1 .1 .1 .0 .1 .0 .1))
+
+long : (s : tie.Start) → Long (s .args .c)
+long s = record { gate = length-gate s; left = length-left s; right = length-right s; lines = length-lines s }
+
 least-requires : tie.Need-least-requires
 least-requires c κs = search needs
 
@@ -83,13 +89,16 @@ put-number-requires : tie.Need-put-number-requires
 put-number-requires c κs = search needs
 
 slice-aggregate-put-gates : tie.Need-slice-aggregate-put-gates
-slice-aggregate-put-gates c = sym (length-gate (start-at (c .before .before .before .before .before .before .before)))
+slice-aggregate-put-gates c = sym (length-gate (start-at (c .before .before .before .before .before .before .before .before)))
 
 slice-aggregate-put-gates-2 : tie.Need-slice-aggregate-put-gates-2
-slice-aggregate-put-gates-2 c = sym (length-left (start-at (c .before .before .before .before .before .before .before .before)))
+slice-aggregate-put-gates-2 c = sym (length-left (start-at (c .before .before .before .before .before .before .before .before .before)))
 
 slice-aggregate-put-gates-3 : tie.Need-slice-aggregate-put-gates-3
-slice-aggregate-put-gates-3 c = sym (length-right (start-at (c .before .before .before .before .before .before .before .before .before)))
+slice-aggregate-put-gates-3 c = sym (length-right (start-at (c .before .before .before .before .before .before .before .before .before .before)))
+
+slice-aggregate-put-gates-4 : tie.Need-slice-aggregate-put-gates-4
+slice-aggregate-put-gates-4 c = sym (length-lines (start-at (c .before .before .before .before .before .before .before .before .before .before .before)))
 
 -- the lines before the gates are few
 before-gates : (o : tie.After-put-number) → o .put-number .result < 2 ^ 20
@@ -106,19 +115,18 @@ before-gates o =
 
 put-gates-requires : tie.Need-put-gates-requires
 put-gates-requires c κs =
-    let output = c .before .before .before .before .before .before .before .before .before in
+    let output = c .before .before .before .before .before .before .before .before .before .before .before in
     omega (arith, before-gates output, counts-at output .least3 .ensures)
 
 slice-aggregate-put-names : tie.Need-slice-aggregate-put-names
 slice-aggregate-put-names c =
-    sym
-    (length-controllable
-    (start-at (c .before .before .before .before .before .before .before .before .before .before .before .before .before .before .before)))
+    let gates = c .before .before .before .before .before in
+    sym (length-controllable (start-at (gates .before .before .before .before .before .before .before .before .before .before .before .before)))
 
 put-names-requires : tie.Need-put-names-requires
 put-names-requires c κs =
     let gates = c .before .before .before .before .before in
-    let output = gates .before .before .before .before .before .before .before .before .before .before in
+    let output = gates .before .before .before .before .before .before .before .before .before .before .before .before in
     omega (
       arith,
       gates .put-gates .ensures .1,
@@ -130,7 +138,7 @@ put-names-requires c κs =
 same-length : tie.Need-same-length
 same-length c =
     let gates = c .before .before .before .before .before .before .before .before in
-    let output = gates .before .before .before .before .before .before .before .before .before .before in
+    let output = gates .before .before .before .before .before .before .before .before .before .before .before .before in
     c .before .before .put-names .ensures .0 .long
     ∙ gates .put-gates .ensures .0 .long
     ∙ output .put-number .ensures .0 .long
@@ -141,14 +149,14 @@ same-length c =
 returns : tie.Need-returns
 returns c =
     let gates = c .before .before .before .before .before .before .before .before in
-    let output = gates .before .before .before .before .before .before .before .before .before .before in
+    let output = gates .before .before .before .before .before .before .before .before .before .before .before .before in
     let start = start-at output in
     let v = start .args .c in
     let least3 = counts-at output .least3 in
     let least2 = counts-at output .before .least2 in
     let least = counts-at output .before .before .least in
     wrote-printed v (least .result) (least2 .result) (least3 .result)
-    (printed-parts v (least .result) (least2 .result) (least3 .result)
+    (printed-parts v (long start) (least .result) (least2 .result) (least3 .result)
     (omega (arith, least .ensures, length-take (v .inputs) (v .input), length-input start))
     (omega (arith, least2 .ensures, length-take (v .latches) (v .latch), length-latch start))
     (omega (arith, least3 .ensures, length-take (v .gates) (v .gate), length-gate start)))
@@ -178,6 +186,7 @@ put-circuit-spec =
     slice-aggregate-put-gates
     slice-aggregate-put-gates-2
     slice-aggregate-put-gates-3
+    slice-aggregate-put-gates-4
     put-gates-requires
     slice-aggregate-put-names
     put-names-requires

@@ -2,15 +2,15 @@
 use Prim.Native.Nat.{ℕ, _+_, _*_, _-_, _<_, _≤_}
 use native.Mathlib.Decide.{decLt, ℕ-discrete}
 use native.Mathlib.Omega.{arith}
-use mathlib.Core.List.{List, _++_}
+use mathlib.Core.List.{List, _++_, map}
 use mathlib.Core.Path.{_≡_, refl, sym, ap, _∙_}
 use lib.ListN.{length, getD, take, set, replicate, length-set, length-take, length-append, length-replicate, getD-replicate, List·getD-append}
 use lib.Seq.{ext-getD, getD-take, getD-append-add, getD-set-same, getD-set-other}
 use Rattle.below.specs.Table.{table}
-use Rattle.below.proofs.laws.Table.{length-table, getD-table, getD-table-past}
+use Rattle.below.proofs.laws.Table.{length-table, getD-table, getD-table-past, map-table, table-getD}
 use Rattle.circuit.specs.Stored.{padded}
-use Rattle.reader.specs.contracts.Rows.{cell, columnOf}
-use Rattle.reader.specs.contracts.ValueOf.{ColumnRoom}
+use Rattle.reader.specs.contracts.Rows.{cell}
+use Rattle.reader.specs.contracts.ValueOf.{ColumnRoom, OrderedRoom, orderedColumn}
 
 -- a list of some numbers and zeros behind them is padded
 pub padded-is : (n : ℕ) (l xs : List ℕ) → length l ≡ n → length xs ≤ n → ((i : ℕ) → i < length xs → getD l i 0 ≡ getD xs i 0)
@@ -40,20 +40,19 @@ pub zeros-at : (n i : ℕ) → _≡_ {A = ℕ} (getD (table (λ j. 0) n) i 0) 0
 zeros-at n i = elim (decLt i n) [ yes h ↦ getD-table (λ j. 0) n i 0 h | no h ↦ getD-table-past (λ j. 0) n i 0 (omega arith) ]
 
 -- i numbers are there, and zeros behind them
-pub record Filling (rows : List ℕ) (start count which : ℕ) (out₀ out : List ℕ) (i : ℕ) : Type 0 where
+pub record Filling (f : ℕ → ℕ) (count : ℕ) (out₀ out : List ℕ) (i : ℕ) : Type 0 where
   pub long : length out ≡ length out₀
   pub few : i ≤ count
-  pub done : (j : ℕ) → j < i → getD out j 0 ≡ cell rows (start + j) which
+  pub done : (j : ℕ) → j < i → getD out j 0 ≡ f j
   pub zeros : (j : ℕ) → i ≤ j → getD out j 0 ≡ 0
 
-module _ (rows : List ℕ) (start count which : ℕ) (out₀ : List ℕ) (room : ColumnRoom rows start count which out₀) where
-  pub filling-starts : Filling rows start count which out₀ out₀ 0
-  filling-starts = record { long = refl; few = omega arith; done = λ j h. absurd (omega arith); zeros = λ j h. room .zeros j }
+module _ (f : ℕ → ℕ) (count : ℕ) (out₀ : List ℕ) where
+  pub filling-starts : ((i : ℕ) → getD out₀ i 0 ≡ 0) → Filling f count out₀ out₀ 0
+  filling-starts zeros = record { long = refl; few = omega arith; done = λ j h. absurd (omega arith); zeros = λ j h. zeros j }
 
-  module _ (out : List ℕ) (i : ℕ) (w : Filling rows start count which out₀ out i) where
-    pub filling-more : i < count → Filling rows start count which out₀ (set out i (getD rows (3 * (start + i) + which) 0)) (i + 1)
-    unfolding cell
-    filling-more h =
+  module _ (room : count ≤ length out₀) (out : List ℕ) (i : ℕ) (w : Filling f count out₀ out i) where
+    pub filling-more : i < count → (v : ℕ) → v ≡ f i → Filling f count out₀ (set out i v) (i + 1)
+    filling-more h v is =
         record {
           long = length-set out i v ∙ w .long;
           few = omega arith;
@@ -61,21 +60,31 @@ module _ (rows : List ℕ) (start count which : ℕ) (out₀ : List ℕ) (room :
           zeros = λ j l. getD-set-other out i j v 0 (λ e. omega arith) ∙ w .zeros j (omega arith);
         }
       where
-        v : ℕ
-        v = getD rows (3 * (start + i) + which) 0
+        new : (j : ℕ) → j ≡ i → getD (set out i v) j 0 ≡ f j
+        new j e = rw e (getD-set-same out i v 0 (omega (arith, w .long)) ∙ is)
 
-        new : (j : ℕ) → j ≡ i → getD (set out i v) j 0 ≡ getD rows (3 * (start + j) + which) 0
-        new j e = rw e (getD-set-same out i v 0 (omega (arith, w .long, room .room)))
-
-    pub filling-ends : count ≤ i → out ≡ padded (length out₀) (columnOf rows start count which)
-    unfolding columnOf
+    pub filling-ends : count ≤ i → out ≡ padded (length out₀) (table f count)
     filling-ends h =
-        padded-is (length out₀) out (table (λ j. cell rows (start + j) which) count) (w .long) (omega (arith, long, room .room))
-        (λ j l. w .done j (omega (arith, long, w .few)) ∙ sym (getD-table (λ k. cell rows (start + k) which) count j 0 (omega (arith, long))))
+        padded-is (length out₀) out (table f count) (w .long) (omega (arith, long))
+        (λ j l. w .done j (omega (arith, long, w .few)) ∙ sym (getD-table f count j 0 (omega (arith, long))))
         (λ j l. w .zeros j (omega (arith, long, w .few)))
       where
-        long : length (table (λ j. cell rows (start + j) which) count) ≡ count
-        long = length-table (λ j. cell rows (start + j) which) count
+        long : length (table f count) ≡ count
+        long = length-table f count
+
+-- what a column holds, and one in an order
+abbrev pub columnAt : (rows : List ℕ) (start which : ℕ) → ℕ → ℕ
+columnAt rows start which j = cell rows (start + j) which
+
+abbrev pub orderedAt : (rows : List ℕ) (start : ℕ) (order : List ℕ) (which : ℕ) → ℕ → ℕ
+orderedAt rows start order which k = cell rows (start + getD order k 0) which
+
+pub ordered-column-table : (rows : List ℕ) (start : ℕ) (order : List ℕ) (which : ℕ)
+    → table (orderedAt rows start order which) (length order) ≡ orderedColumn rows start order which
+unfolding orderedColumn
+ordered-column-table rows start order which =
+    sym (map-table (λ i. cell rows (start + i) which) (λ k. getD order k 0) (length order))
+    ∙ ap (map (λ i. cell rows (start + i) which)) (table-getD order 0)
 
 -- a column in a list of zeros
 pub column-room : (rows : List ℕ) (start count which n : ℕ) (out : List ℕ) → out ≡ table (λ i. 0) n → 3 * (start + count) ≤ length rows → which < 3

@@ -1,12 +1,14 @@
 -- A file from its first byte on: length, header, limits, and then its lines. Assumes nothing.
-use Prim.Native.Nat.{ℕ, _+_, _<_, _≤_}
+use Prim.Native.Nat.{ℕ, _+_, _-_, _<_, _≤_}
+use native.Mathlib.Omega.{arith}
 use native.Mathlib.Nat.{zero-add}
 use mathlib.Core.Bool.{true, false, _&&_}
 use mathlib.Core.List.{List, [], _∷_}
 use mathlib.Core.Option.{none, some}
 use mathlib.Core.Path.{_≡_, sym, ap, _∙_}
 use lib.Dec.{eqb, leb}
-use lib.ListN.{length, take, drop}
+use lib.ListN.{length, take, drop, length-drop}
+use lib.Seq.{take-all}
 use borrow.Author.Tests.{lt-ltb, le-ltb, leb-true, eqb-true}
 use Rattle.bits.proofs.laws.Bytes.{both-true}
 use Rattle.circuit.specs.Limits.{base}
@@ -63,3 +65,7 @@ module _ (bytes : List ℕ) where
 -- the first line is the part of the file up to its end
 pub first-part : (bytes : List ℕ) (end : ℕ) → end ≡ 0 + length (firstLine bytes) → take end bytes ≡ firstLine bytes
 first-part bytes end e = rw (e ∙ zero-add (length (firstLine bytes))) (first-line-takes bytes)
+
+-- what stands behind it
+pub rest-part : (bytes : List ℕ) (end : ℕ) → take (length bytes - end) (drop end bytes) ≡ drop end bytes
+rest-part bytes end = take-all (length bytes - end) (drop end bytes) (omega (arith, length-drop end bytes))

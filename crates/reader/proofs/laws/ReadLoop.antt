@@ -2,30 +2,38 @@
 use Prim.Native.Nat.{ℕ, zero, suc, _+_, _*_, _<_}
 use native.Mathlib.Omega.{arith}
 use mathlib.Core.Bool.{Bool, true, false, cond, not, _||_}
-use mathlib.Core.List.{List, [], _∷_, _++_, map}
-use mathlib.Core.Path.{_≡_, refl, sym, ap, ap₂, _∙_}
+use mathlib.Core.List.{List, [], _∷_, _++_, map, map-map}
+use mathlib.Core.Path.{_≡_, refl, sym, ap, ap₂, _∙_, subst}
 use lib.Dec.{eqb, ltb}
-use lib.ListN.{length, getD, take, drop, replicate, length-replicate, length-take, length-append}
+use lib.ListN.{length, getD, take, replicate, length-map, length-replicate, length-take, length-append}
 use lib.Seq.{take-all, getD-take}
 use Rattle.below.specs.Table.{table}
 use Rattle.below.proofs.laws.Filled.{replicate-table}
-use Rattle.below.proofs.laws.Table.{length-table, getD-table, map-table, table-getD}
+use Rattle.below.proofs.laws.Table.{length-table, getD-table, map-table, table-getD, table-same}
 use Rattle.bits.specs.Bit.{oneIf}
 use Rattle.circuit.specs.Answer.{readOutcome, circuitOr, ReadAs}
-use Rattle.circuit.specs.Circuit.{Circuit, Input, Latch, Gate, inputsThat, uncontrollableCount, controllableCount, tooMany}
+use Rattle.circuit.specs.Circuit.{Circuit, Input, Latch, Gate, inputsThat, uncontrollableCount, controllableCount, tooMany, gateAt}
 use Rattle.circuit.specs.Limits.{base}
 use Rattle.circuit.specs.Outcome.{Outcome, taken, refused, refuseIf}
 use Rattle.circuit.specs.Stored.{padded, stored, emptyCircuit, inputsOf, literalOf}
 use Rattle.circuit.specs.declared.FileRead.{FileRead}
 use Rattle.circuit.specs.declared.Read.the-variants.{Taken, Refused}
-use Rattle.fields.specs.declared.line.Cursor.{Cursor}
+use Rattle.order.specs.Ordered.{Ordered}
+use Rattle.order.specs.Place.{placeIn}
+use Rattle.order.specs.Placing.{orderOf}
+use Rattle.order.specs.Reaches.{Reaches}
+use Rattle.order.proofs.laws.Meets.{below-lowest}
+use Rattle.order.proofs.laws.NoCircle.{no-circle-ordered}
+use Rattle.order.proofs.laws.Place.{getD-within}
 use Rattle.reader.specs.contracts.CountedAs.{withInputs, CountedAs}
 use Rattle.reader.specs.contracts.LinesAs.{circuitOfLines, LinesRoom}
-use Rattle.reader.specs.contracts.Rows.{cell, columnOf, rowsFile}
+use Rattle.reader.specs.contracts.PlacedAs.{AllPlaced}
+use Rattle.reader.specs.contracts.Rows.{cell, columnOf, gateOn, rowGates, rowsFile}
 use Rattle.reader.specs.contracts.SymbolsAs.{Flags}
 use Rattle.reader.specs.contracts.TextAs.{TextRoom}
-use Rattle.reader.specs.contracts.ValueOf.{Few, valueOf}
+use Rattle.reader.specs.contracts.ValueOf.{Few, ValueRoom, orderedColumn, valueOf}
 use Rattle.reader.proofs.laws.ColumnLoop.{padded-is, zeros-at}
+use Rattle.text.specs.GateUses.{usesOf, evaluation, evaluated}
 use Rattle.text.specs.Header.{Header}
 use Rattle.text.specs.Line.{lines}
 use Rattle.text.specs.Numbers.{tooManyInputs}
@@ -80,6 +88,13 @@ unfolding oneIf
 flag-is true = refl
 flag-is false = refl
 
+-- functions that agree on what a list holds
+map-same : {B : Type 0} (f g : ℕ → B) (xs : List ℕ) → ((k : ℕ) → k < length xs → f (getD xs k 0) ≡ g (getD xs k 0)) → map f xs ≡ map g xs
+map-same f g xs e =
+    ap (map f) (sym (table-getD xs 0)) ∙ map-table f (λ k. getD xs k 0) (length xs)
+    ∙ table-same (λ k. f (getD xs k 0)) (λ k. g (getD xs k 0)) (length xs) e
+    ∙ sym (ap (map g) (sym (table-getD xs 0)) ∙ map-table g (λ k. getD xs k 0) (length xs))
+
 -- the room that a circuit's limits give
 pub zeros-long : (n : ℕ) (l : List ℕ) → l ≡ table (λ i. 0) n → length l ≡ n
 zeros-long n l e = ap length e ∙ length-table {A = ℕ} (λ i. 0) n
@@ -87,27 +102,36 @@ zeros-long n l e = ap length e ∙ length-table {A = ℕ} (λ i. 0) n
 zeros-none : (n : ℕ) (l : List ℕ) → l ≡ table (λ i. 0) n → (i : ℕ) → getD l i 0 ≡ 0
 zeros-none n l e i = ap (λ (k : List ℕ). getD k i 0) e ∙ zeros-at n i
 
-pub text-room : (bytes : List ℕ) (from : Cursor) (h : Header) (marks rows names flags : List ℕ) → LinesRoom bytes from h
-    → marks ≡ table (λ i. 0) (base .variable + 1)
-    → rows ≡ table (λ i. 0) (3 * (base .variable + 1)) → names ≡ table (λ i. 0) (base .inputs + base .latches + base .outputs)
-    → flags ≡ table (λ i. 0) (base .inputs)
-    → TextRoom bytes from h marks rows names flags
-text-room bytes from h marks rows names flags p m r n f =
+pub text-room : (bytes : List ℕ) (h : Header) (marks rows names flags uses order : List ℕ) → LinesRoom bytes h
+    → marks ≡ table (λ i. 0) (base .variable + 1) → rows ≡ table (λ i. 0) (3 * (base .variable + 1))
+    → names ≡ table (λ i. 0) (base .inputs + base .latches + base .outputs) → flags ≡ table (λ i. 0) (base .inputs)
+    → uses ≡ table (λ i. 0) (2 * base .variable) → order ≡ table (λ i. 0) (base .variable + 1)
+    → TextRoom bytes h marks rows names flags uses order
+text-room bytes h marks rows names flags uses order p m r n f u o =
     let few = p .few in
     let m-long = zeros-long (base .variable + 1) marks m in
     let r-long = zeros-long (3 * (base .variable + 1)) rows r in
     let n-long = zeros-long (base .inputs + base .latches + base .outputs) names n in
     let f-long = zeros-long (base .inputs) flags f in
+    let u-long = zeros-long (2 * base .variable) uses u in
+    let o-long = zeros-long (base .variable + 1) order o in
     record {
-      body =
+      ordering =
           record {
-            within = p .within;
-            second = p .second;
-            places = omega (arith, few .largest, few .gates);
-            marks-all = omega (arith, few .largest, m-long);
-            marks-few = omega (arith, m-long);
-            marks-none = zeros-none (base .variable + 1) marks m;
-            rows-all = omega (arith, few .largest, few .gates, r-long);
+            body =
+                record {
+                  within = omega arith;
+                  second = refl;
+                  places = omega (arith, few .largest, few .gates);
+                  marks-all = omega (arith, few .largest, m-long);
+                  marks-few = omega (arith, m-long);
+                  marks-none = zeros-none (base .variable + 1) marks m;
+                  rows-all = omega (arith, few .largest, few .gates, r-long);
+                };
+            gates = omega (arith, few .gates);
+            uses-all = omega (arith, few .largest, few .gates, u-long);
+            order-all = omega (arith, m-long, o-long);
+            order-none = zeros-none (base .variable + 1) order o;
           };
       places = omega (arith, few .largest, few .gates, p .file);
       names-all = omega (arith, few .inputs, few .latches, few .outputs, n-long);
@@ -116,9 +140,35 @@ text-room bytes from h marks rows names flags p m r n f =
       flags-none = zeros-none (base .inputs) flags f;
     }
 
--- the circuit that rows and flags make is the one that the file means
-module _ (h : Header) (rows flags : List ℕ) (behind : Symbols) (few : Few h) (long : length flags ≡ base .inputs)
-    (flagged : Flags (h .inputs) flags (behind .symbols)) where
+-- where no gate reaches itself, the places hold an order of evaluation
+pub placed-ordered : (h : Header) (rows order : List ℕ) → AllPlaced h rows order → Ordered (usesOf (rowGates h rows)) (h .gates) (take (h .gates) order)
+unfolding evaluation
+placed-ordered h rows order w = subst (Ordered uses (h .gates)) (sym (w .placed ∙ ap (orderOf uses) many)) (no-circle-ordered uses (h .gates) never)
+  where
+    uses : List ℕ
+    uses = usesOf (rowGates h rows)
+
+    many : length (rowGates h rows) ≡ h .gates
+    many = length-table (λ i. gateOn rows (h .inputs + h .latches + 1 + i)) (h .gates)
+
+    never : (i : ℕ) → i < h .gates → Reaches uses (h .gates) i i → ⊥
+    never i l r = below-lowest uses (h .gates) i (omega (arith, w .none)) r
+
+-- room for the circuit's columns
+pub value-room : (h : Header) (rows order : List ℕ) → Few h → length rows ≡ 3 * (base .variable + 1) → AllPlaced h rows order
+    → ValueRoom h rows (take (h .gates) order)
+value-room h rows order few long w =
+    record {
+      few = few;
+      inside = omega (arith, few .gates, few .largest, long);
+      uses = usesOf (rowGates h rows);
+      ordered = placed-ordered h rows order w;
+    }
+
+-- the circuit that rows, order and flags make is the one that the file means
+module _ (h : Header) (rows order flags : List ℕ) (behind : Symbols) (few : Few h) (long : length flags ≡ base .inputs)
+    (flagged : Flags (h .inputs) flags (behind .symbols)) (placed : order ≡ evaluation (rowGates h rows))
+    (ordered : Ordered (usesOf (rowGates h rows)) (h .gates) order) where
   abbrev file : TextFile
   file = rowsFile h rows behind
 
@@ -156,10 +206,37 @@ module _ (h : Header) (rows flags : List ℕ) (behind : Symbols) (few : Few h) (
       size : length (table flag (h .inputs)) ≡ h .inputs
       size = length-table flag (h .inputs)
 
-  pub value-stored : valueOf h rows flags ≡ stored (circuitOf file)
-  unfolding valueOf stored circuitOf rowsFile columnOf
+  -- the gates in their order, and their places
+  gate-count : length (rowGates h rows) ≡ h .gates
+  gate-count = length-table (λ i. gateOn rows (h .inputs + h .latches + 1 + i)) (h .gates)
+
+  gate-of : (f : Gate → ℕ) (which : ℕ) → ((j : ℕ) → f (gateOn rows j) ≡ cell rows j which)
+      → orderedColumn rows (h .inputs + h .latches + 1) order which ≡ map f (map (gateAt (rowGates h rows)) (evaluation (rowGates h rows)))
+  unfolding orderedColumn gateAt
+  gate-of f which e =
+      map-same (λ i. cell rows (h .inputs + h .latches + 1 + i) which) (λ i. f (gateAt (rowGates h rows) i)) order
+      (λ k l.
+      let low : getD order k 0 < h .gates = omega (
+        arith,
+        ordered .long,
+        ordered .within k (omega (arith, ordered .long)),
+        getD-within order k 0 (h .gates) l,
+      ) in
+      sym (ap f (getD-table (λ i. gateOn rows (h .inputs + h .latches + 1 + i)) (h .gates) (getD order k 0) (record { own = 0; left = 0; right = 0 }) low)
+      ∙ e (h .inputs + h .latches + 1 + getD order k 0)))
+      ∙ sym (map-map f (gateAt (rowGates h rows)) order)
+      ∙ ap (λ (l : List ℕ). map f (map (gateAt (rowGates h rows)) l)) placed
+
+  placed-long : h .gates ≡ length (map (gateAt (rowGates h rows)) (evaluation (rowGates h rows)))
+  placed-long = sym (length-map (evaluation (rowGates h rows)) (gateAt (rowGates h rows)) ∙ ap length (sym placed) ∙ ordered .long)
+
+  places-are : table (placeIn order) (h .gates) ≡ table (evaluated (rowGates h rows)) (length (rowGates h rows))
+  unfolding evaluated
+  places-are = λ x. table (placeIn (placed x)) (sym gate-count x)
+
+  pub value-stored : valueOf h rows order flags ≡ stored (circuitOf file)
+  unfolding valueOf stored circuitOf rowsFile columnOf gateOn
   value-stored =
-      let first = h .inputs + h .latches + 1 in
       λ x.
       record {
         largest = h .largest;
@@ -169,8 +246,7 @@ module _ (h : Header) (rows flags : List ℕ) (behind : Symbols) (few : Few h) (
               i;
         }) (length (columnOf rows 0 (h .inputs) 0)) ∙ inputs-long) x;
         latches = sym (length-table {A = Latch} (λ i. record { own = cell rows (h .inputs + i) 0; next = cell rows (h .inputs + i) 1 }) (h .latches)) x;
-        gates = sym (length-table {A = Gate} (λ i. record { own = cell rows (first + i) 0; left = cell rows (first + i) 1; right = cell rows (first + i) 2 })
-            (h .gates)) x;
+        gates = placed-long x;
         input = padded (base .inputs) (sym input-column x);
         controllable = (flags-padded ∙ ap (padded (base .inputs)) (sym flag-column)) x;
         latch = padded (base .latches) (sym (map-table (λ (l : Latch). l .own) (λ i. record
@@ -178,16 +254,15 @@ module _ (h : Header) (rows flags : List ℕ) (behind : Symbols) (few : Few h) (
         next = padded (base .latches) (sym (map-table (λ (l : Latch). l .next) (λ i. record
             { own = cell rows (h .inputs + i) 0; next = cell rows (h .inputs + i) 1 }) (h .latches)) x);
         output = cell rows (h .inputs + h .latches) 0;
-        gate = padded (base .variable) (sym (map-table (λ (g : Gate). g .own) (λ i. record
-            { own = cell rows (first + i) 0; left = cell rows (first + i) 1; right = cell rows (first + i) 2 }) (h .gates)) x);
-        left = padded (base .variable) (sym (map-table (λ (g : Gate). g .left) (λ i. record
-            { own = cell rows (first + i) 0; left = cell rows (first + i) 1; right = cell rows (first + i) 2 }) (h .gates)) x);
-        right = padded (base .variable) (sym (map-table (λ (g : Gate). g .right)
-            (λ i. record { own = cell rows (first + i) 0; left = cell rows (first + i) 1; right = cell rows (first + i) 2 }) (h .gates)) x);
+        gate = padded (base .variable) (gate-of (λ (g : Gate). g .own) 0 (λ j. refl) x);
+        left = padded (base .variable) (gate-of (λ (g : Gate). g .left) 1 (λ j. refl) x);
+        right = padded (base .variable) (gate-of (λ (g : Gate). g .right) 2 (λ j. refl) x);
+        lines = padded (base .variable) (places-are x);
       }
 
   -- inputs of each sort, counted in the value and in the circuit
-  too-many-same : tooMany base (withInputs (inputsOf (take (h .inputs) (valueOf h rows flags .input)) (take (h .inputs) flags))) ≡ tooMany base (circuitOf file)
+  too-many-same : tooMany base (withInputs (inputsOf (take (h .inputs) (valueOf h rows order flags .input)) (take (h .inputs) flags))) ≡ tooMany base
+      (circuitOf file)
   unfolding tooMany withInputs uncontrollableCount controllableCount inputsOf circuitOf rowsFile valueOf padded
   too-many-same = ap₂ (λ (u c : ℕ). ltb (base .uncontrollable) u || ltb (base .controllable) c)
       (count (λ i. not (i .controllable)) (λ i l. ap not (flag i l))) (count (λ i. i .controllable) flag)
@@ -217,13 +292,13 @@ module _ (h : Header) (rows flags : List ℕ) (behind : Symbols) (few : Few h) (
       count p e = rw (front-long, inputs-long) (inputs-that-same p p asked meant (h .inputs) e)
 
   -- the reader's answer: number 9, or the circuit
-  pub lines-as : (bytes : List ℕ) (from : Cursor) → linesRead h (lines (drop (from .at) bytes)) ≡ taken file → (r : FileRead)
-      → CountedAs (valueOf h rows flags) (h .inputs) r
-      → ReadAs (circuitOfLines (linesRead h (lines (drop (from .at) bytes)))) r
+  pub lines-as : (bytes : List ℕ) → linesRead h (lines bytes) ≡ taken file → (r : FileRead)
+      → CountedAs (valueOf h rows order flags) (h .inputs) r
+      → ReadAs (circuitOfLines (linesRead h (lines bytes))) r
   unfolding circuitOfLines refuseIf valueOf
-  lines-as bytes from whole r w = by (tooMany base (circuitOf file)) refl
+  lines-as bytes whole r w = by (tooMany base (circuitOf file)) refl
     where
-      by : (b : Bool) → tooMany base (circuitOf file) ≡ b → ReadAs (circuitOfLines (linesRead h (lines (drop (from .at) bytes)))) r
+      by : (b : Bool) → tooMany base (circuitOf file) ≡ b → ReadAs (circuitOfLines (linesRead h (lines bytes))) r
       by true e = read-refused _ tooManyInputs 0 r (rw (whole, e)) (w .many (too-many-same ∙ e))
       by false e = read-taken _ (circuitOf file) r (rw (whole, e)) (w .few (too-many-same ∙ e)
           ∙ ap {B = FileRead} (λ u. record { answer = Taken; circuit = u }) value-stored)

@@ -1,23 +1,23 @@
 -- What is read behind the gates, by the rows of all lines. Assumes nothing.
-use Prim.Native.Nat.{ℕ, _+_, _<_, _≤_}
+use Prim.Native.Nat.{ℕ, zero, suc, _+_, _<_, _≤_}
+use native.Mathlib.Nat.{add-zero, add-suc}
 use native.Mathlib.Omega.{arith}
-use native.Mathlib.Numerals.{add-one}
-use mathlib.Core.List.{List, [], _∷_, _++_, map}
+use mathlib.Core.List.{List, [], _∷_, _++_, map, append-nil, append-assoc}
 use mathlib.Core.Path.{_≡_, sym, ap, ap₂, _∙_}
 use lib.ListN.{length, getD, take, drop, length-take, length-drop}
 use lib.Seq.{ext-getD, getD-take, getD-drop}
-use borrow.Author.Tests.{lt-ltb, le-ltb}
+use borrow.Author.Tests.{lt-ltb, le-ltb, eq-eqb, ne-eqb}
 use Rattle.below.specs.Table.{table}
 use Rattle.below.proofs.laws.Table.{length-table, getD-table, map-table, table-same}
 use Rattle.circuit.specs.Outcome.{taken, _>>=_, _>>_}
 use Rattle.reader.specs.contracts.AllLines.{lineCount}
-use Rattle.reader.specs.contracts.Rows.{cell, rowAt, columnOf, lateAt, rowsFile}
+use Rattle.reader.specs.contracts.Rows.{cell, rowAt, columnOf, lateAt, gateOn, rowGates, rowsFile}
 use Rattle.reader.proofs.laws.Sections.{partOf, finished, input-rules, latch-rules, output-rules, gate-rules}
 use Rattle.text.specs.Header.{Header}
-use Rattle.text.specs.Read.{latchOf, gateOf}
+use Rattle.text.specs.Kind.{usedBy, aLatch, theOutput, aGate, latchOf, gateOf}
 use Rattle.text.specs.Rules.{inputRule, latchRule, outputRule, gateRule}
 use Rattle.text.specs.Section.{Body, used}
-use Rattle.text.specs.Stages.{lateOf}
+use Rattle.text.specs.Stages.{lateOf, circled}
 use Rattle.text.specs.Symbol.{Symbols, symbolLines}
 use Rattle.text.proofs.laws.Stages.{fileOf}
 
@@ -32,6 +32,15 @@ part-table f n start count h =
   where
     long : length (take count (drop start (table f n))) ≡ count
     long = length-take count (drop start (table f n)) ∙ omega (arith, length-drop start (table f n), length-table f n)
+
+-- a table and the one behind it
+table-join : {A : Type 0} (f : ℕ → A) (n m : ℕ) → table f n ++ table (λ i. f (n + i)) m ≡ table f (n + m)
+unfolding table
+table-join f n zero = append-nil (table f n) ∙ ap (table f) (sym (add-zero n))
+table-join f n (suc m) =
+    sym (append-assoc (table f n) (table (λ i. f (n + i)) m) (f (n + m) ∷ []))
+    ∙ ap (λ l. l ++ (f (n + m) ∷ [])) (table-join f n m)
+    ∙ ap (table f) (sym (add-suc n m))
 
 module _ (h : Header) (rows defined : List ℕ) (rest : List (List ℕ)) where
   abbrev all : Body
@@ -58,21 +67,55 @@ module _ (h : Header) (rows defined : List ℕ) (rest : List (List ℕ)) where
   unfolding rowAt gateRule
   gate-rows = part-table (rowAt h rows) (lineCount h) first (h .gates) (omega arith) ∙ table-same _ _ (h .gates) (λ i l. rw (gate-rules h i l))
 
-  -- the literals looked at behind all gate lines
-  lates : lateOf (partOf (h .inputs) (h .latches) all) (partOf (h .inputs + h .latches) 1 all) ≡ table (lateAt h rows) (h .latches + 1)
+  -- what is looked at behind all gate lines
+  late-latches : map (usedBy aLatch) (partOf (h .inputs) (h .latches) all .rows) ≡ table (lateAt h rows) (h .latches)
+  unfolding lateAt
+  late-latches =
+      ap (map (usedBy aLatch)) latch-rows
+      ∙ map-table (usedBy aLatch) (λ i. cell rows (h .inputs + i) 0 ∷ cell rows (h .inputs + i) 1 ∷ []) (h .latches)
+      ∙ table-same (λ i. cell rows (h .inputs + i) 1 ∷ []) (lateAt h rows) (h .latches)
+      (λ i l. rw (ne-eqb i (h .latches) (λ e. omega arith), lt-ltb i (h .latches) l))
+
+  late-output : map (usedBy theOutput) (partOf (h .inputs + h .latches) 1 all .rows) ≡ table (λ i. lateAt h rows (h .latches + i)) 1
   unfolding lateAt table
+  late-output =
+      ap (map (usedBy theOutput)) output-rows
+      ∙ ap (λ (x : List ℕ). x ∷ []) (rw (eq-eqb (h .latches + 0) (h .latches) (add-zero (h .latches))) (ap (λ (j : ℕ). cell rows j 0 ∷ []) place))
+    where
+      place : h .inputs + h .latches ≡ h .inputs + (h .latches + 0)
+      place = omega arith
+
+  late-gates : map (usedBy aGate) (partOf first (h .gates) all .rows) ≡ table (λ i. lateAt h rows (h .latches + 1 + i)) (h .gates)
+  unfolding lateAt
+  late-gates =
+      ap (map (usedBy aGate)) gate-rows
+      ∙ map-table (usedBy aGate) (λ i. cell rows (first + i) 0 ∷ cell rows (first + i) 1 ∷ cell rows (first + i) 2 ∷ []) (h .gates)
+      ∙ table-same (λ i. cell rows (first + i) 1 ∷ cell rows (first + i) 2 ∷ []) (λ i. lateAt h rows (h .latches + 1 + i)) (h .gates)
+      (λ i l. rw (ne-eqb (h .latches + 1 + i) (h .latches) (λ e. omega arith), le-ltb (h .latches + 1 + i) (h .latches) (omega arith))
+      (ap (λ (j : ℕ). cell rows j 1 ∷ cell rows j 2 ∷ []) (place i)))
+    where
+      place : (i : ℕ) → first + i ≡ h .inputs + (h .latches + 1 + i)
+      place i = omega arith
+
+  lates : lateOf (partOf (h .inputs) (h .latches) all) (partOf (h .inputs + h .latches) 1 all) (partOf first (h .gates) all)
+      ≡ table (lateAt h rows) (h .latches + 1 + h .gates)
   lates =
-      ap₂ {C = List ℕ} (λ (l o : List (List ℕ)). map (λ fs. getD fs 1 0) l ++ map (λ fs. getD fs 0 0) o) latch-rows output-rows
-      ∙ ap₂ {C = List ℕ} (λ l x. l ++ (x ∷ []))
-      (map-table (λ fs. getD fs 1 0) (λ i. cell rows (h .inputs + i) 0 ∷ cell rows (h .inputs + i) 1 ∷ []) (h .latches)
-      ∙ table-same (λ i. cell rows (h .inputs + i) 1) (lateAt h rows) (h .latches) (λ i l. rw (lt-ltb i (h .latches) l)))
-      (rw (le-ltb (h .latches) (h .latches) (omega arith)))
-      ∙ ap (table (lateAt h rows)) (sym (add-one (h .latches)))
+      (λ x. late-latches x ++ (late-output x ++ late-gates x))
+      ∙ sym (append-assoc (table (lateAt h rows) (h .latches)) (table (λ i. lateAt h rows (h .latches + i)) 1)
+      (table (λ i. lateAt h rows (h .latches + 1 + i)) (h .gates)))
+      ∙ ap (λ (l : List (List ℕ)). l ++ table (λ i. lateAt h rows (h .latches + 1 + i)) (h .gates)) (table-join (lateAt h rows) (h .latches) 1)
+      ∙ table-join (lateAt h rows) (h .latches + 1) (h .gates)
+
+  -- the gates
+  gates-are : map gateOf (partOf first (h .gates) all .rows) ≡ rowGates h rows
+  unfolding gateOf gateOn
+  gates-are = ap (map gateOf) gate-rows
+      ∙ map-table gateOf (λ i. cell rows (first + i) 0 ∷ cell rows (first + i) 1 ∷ cell rows (first + i) 2 ∷ []) (h .gates)
 
   -- the file
   file-is : (behind : Symbols) → fileOf h (partOf 0 (h .inputs) all) (partOf (h .inputs) (h .latches) all) (partOf (h .inputs + h .latches) 1 all)
       (partOf first (h .gates) all) behind ≡ rowsFile h rows behind
-  unfolding rowsFile columnOf latchOf gateOf
+  unfolding rowsFile columnOf latchOf
   file-is behind =
       λ x.
       record {
@@ -80,14 +123,16 @@ module _ (h : Header) (rows defined : List ℕ) (rest : List (List ℕ)) where
         inputs = (ap (map (λ fs. getD fs 0 0)) input-rows ∙ map-table (λ fs. getD fs 0 0) (λ i. cell rows (0 + i) 0 ∷ []) (h .inputs)) x;
         latches = (ap (map latchOf) latch-rows ∙ map-table latchOf (λ i. cell rows (h .inputs + i) 0 ∷ cell rows (h .inputs + i) 1 ∷ []) (h .latches)) x;
         output = getD (getD (output-rows x) 0 []) 0 0;
-        gates = (ap (map gateOf) gate-rows ∙ map-table gateOf (λ i. cell rows (first + i) 0 ∷ cell rows (first + i) 1 ∷ cell rows (first + i) 2 ∷ [])
-            (h .gates)) x;
+        gates = gates-are x;
         symbols = behind .symbols;
         comment = behind .comment;
       }
 
-  pub finished-rows : finished h all ≡ (used defined (2 + h .inputs) (table (lateAt h rows) (h .latches + 1)) >>
-      (symbolLines h (3 + h .inputs + h .latches + h .gates) [] rest >>= λ behind. taken (rowsFile h rows behind)))
+  pub finished-rows : finished h all ≡ (used defined (2 + h .inputs) (table (lateAt h rows) (h .latches + 1 + h .gates)) >>
+      (circled (3 + h .inputs + h .latches) (rowGates h rows) >>
+      (symbolLines h (3 + h .inputs + h .latches + h .gates) [] rest >>= λ behind. taken (rowsFile h rows behind))))
   finished-rows =
       λ x.
-      used defined (2 + h .inputs) (lates x) >> (symbolLines h (3 + h .inputs + h .latches + h .gates) [] rest >>= λ behind. taken (file-is behind x))
+      used defined (2 + h .inputs) (lates x)
+      >> (circled (3 + h .inputs + h .latches) (gates-are x)
+      >> (symbolLines h (3 + h .inputs + h .latches + h .gates) [] rest >>= λ behind. taken (file-is behind x)))

@@ -14,7 +14,7 @@ use Rattle.text.specs.Numbers.{tooManyInputs}
 
 -- a circuit of some inputs and nothing else
 unfoldable pub withInputs : List Input → Circuit
-withInputs inputs = record { largest = 0; inputs = inputs; latches = []; output = 0; gates = [] }
+withInputs inputs = record { largest = 0; inputs = inputs; latches = []; output = 0; gates = []; lines = [] }
 
 -- too many: refused with 9 at 0; else taken as it is
 pub record CountedAs (v : Value) (inputs : ℕ) (r : FileRead) : Type 0 where

@@ -2,13 +2,12 @@
 use Prim.Native.Nat.{ℕ, _≤_}
 use mathlib.Core.List.{List}
 use mathlib.Core.Path.{_≡_}
-use lib.ListN.{length, drop}
+use lib.ListN.{length}
 use Rattle.circuit.specs.Answer.{ReadAs}
 use Rattle.circuit.specs.Circuit.{Circuit, tooMany}
 use Rattle.circuit.specs.Limits.{base}
 use Rattle.circuit.specs.Outcome.{Outcome, taken, _>>=_, _>>_, refuseIf}
 use Rattle.circuit.specs.declared.FileRead.{FileRead}
-use Rattle.fields.specs.declared.line.Cursor.{Cursor}
 use Rattle.reader.specs.contracts.ValueOf.{Few}
 use Rattle.text.specs.Header.{Header}
 use Rattle.text.specs.Line.{lines}
@@ -20,12 +19,10 @@ use Rattle.text.specs.TextFile.{TextFile, circuitOf}
 unfoldable pub circuitOfLines : Outcome TextFile → Outcome Circuit
 circuitOfLines o = o >>= λ f. refuseIf (tooMany base (circuitOf f)) tooManyInputs 0 >> taken (circuitOf f)
 
-abbrev pub LinesAs : Header → (bytes : List ℕ) (from : Cursor) → FileRead → Type 0
-LinesAs h bytes from r = ReadAs (circuitOfLines (linesRead h (lines (drop (from .at) bytes)))) r
+abbrev pub LinesAs : Header → (bytes : List ℕ) → FileRead → Type 0
+LinesAs h bytes r = ReadAs (circuitOfLines (linesRead h (lines bytes))) r
 
--- a file and a header within the limits, and line 2 behind it
-pub record LinesRoom (bytes : List ℕ) (from : Cursor) (h : Header) : Type 0 where
-  pub within : from .at ≤ length bytes
-  pub second : from .line ≡ 2
+-- what stands behind a header, and the header, within the limits
+pub record LinesRoom (bytes : List ℕ) (h : Header) : Type 0 where
   pub file : length bytes ≤ base .file
   pub few : Few h

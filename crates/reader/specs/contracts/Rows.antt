@@ -2,9 +2,10 @@
 use Prim.Native.Nat.{ℕ, _+_, _*_}
 use mathlib.Core.Bool.{cond}
 use mathlib.Core.List.{List, [], _∷_}
-use lib.Dec.{ltb}
+use lib.Dec.{eqb, ltb}
 use lib.ListN.{getD, take, set}
 use Rattle.below.specs.Table.{table}
+use Rattle.circuit.specs.Circuit.{Gate}
 use Rattle.reader.specs.contracts.AllLines.{ruleAt}
 use Rattle.text.specs.Header.{Header}
 use Rattle.text.specs.Symbol.{Symbols}
@@ -26,20 +27,28 @@ withNumbers rows j a b c = set (set (set rows (3 * j + 0) a) (3 * j + 1) b) (3 *
 unfoldable pub columnOf : (rows : List ℕ) (start count which : ℕ) → List ℕ
 columnOf rows start count which = table (λ i. cell rows (start + i) which) count
 
--- the literals of next states, and behind them the output's
-unfoldable pub lateAt : Header → (rows : List ℕ) → ℕ → ℕ
-lateAt h rows k = cell rows (h .inputs + k) (cond (ltb k (h .latches)) 1 0)
+-- what lines behind the inputs use: a next state, the output, a gate's operands
+unfoldable pub lateAt : Header → (rows : List ℕ) → ℕ → List ℕ
+lateAt h rows k =
+    cond (eqb k (h .latches)) (cell rows (h .inputs + k) 0 ∷ [])
+    (cell rows (h .inputs + k) 1 ∷ cond (ltb k (h .latches)) [] (cell rows (h .inputs + k) 2 ∷ []))
+
+-- the gates that so many lines from a start on say
+unfoldable pub gateOn : (rows : List ℕ) → ℕ → Gate
+gateOn rows j = record { own = cell rows j 0; left = cell rows j 1; right = cell rows j 2 }
+
+abbrev pub rowGates : Header → (rows : List ℕ) → List Gate
+rowGates h rows = table (λ i. gateOn rows (h .inputs + h .latches + 1 + i)) (h .gates)
 
 -- the file that rows and symbols say
 unfoldable pub rowsFile : Header → (rows : List ℕ) → Symbols → TextFile
 rowsFile h rows behind =
-    let first = h .inputs + h .latches + 1 in
     record {
       largest = h .largest;
       inputs = columnOf rows 0 (h .inputs) 0;
       latches = table (λ i. record { own = cell rows (h .inputs + i) 0; next = cell rows (h .inputs + i) 1 }) (h .latches);
       output = cell rows (h .inputs + h .latches) 0;
-      gates = table (λ i. record { own = cell rows (first + i) 0; left = cell rows (first + i) 1; right = cell rows (first + i) 2 }) (h .gates);
+      gates = rowGates h rows;
       symbols = behind .symbols;
       comment = behind .comment;
     }

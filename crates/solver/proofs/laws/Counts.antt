@@ -1,18 +1,27 @@
 -- The counts of the circuit that is solved: those of the lent lists, or none where they have too many inputs of a sort. Assumes nothing.
 use Prim.Native.Nat.{ℕ, min}
 use native.Mathlib.Omega.{arith}
-use mathlib.Core.Bool.{true, false, not, _||_}
+use mathlib.Core.Bool.{Bool, true, false, cond, not, _||_}
 use mathlib.Core.List.{List}
-use mathlib.Core.Path.{_≡_, ap, _∙_}
+use mathlib.Core.Path.{_≡_, refl, ap, _∙_}
 use lib.Dec.{ltb}
 use lib.ListN.{length, take, length-take}
 use Rattle.below.proofs.laws.Take.{take-min}
-use Rattle.circuit.specs.Circuit.{Circuit, Input, inputsThat, latchCount, uncontrollableCount, controllableCount}
+use Rattle.circuit.specs.Circuit.{Circuit, Input, inputsThat, latchCount, uncontrollableCount, controllableCount, tooMany}
 use Rattle.circuit.specs.Limits.{base}
-use Rattle.circuit.specs.Stored.{lent, solvable, inputsOf, emptyCircuit}
+use Rattle.circuit.specs.Stored.{lent, onLines, solvable, inputsOf, emptyCircuit}
 use Rattle.circuit.proofs.laws.Solvable.{many-solved-empty, few-solved, lent-latches}
 use Rattle.solver.specs.Counts.{countsOf}
 use Rattle.solver.specs.declared.counts.Counts.{Counts}
+
+-- which lines the gates stand on isn't read
+pub lines-not-counted : (lines : List ℕ) (c : Circuit) → countsOf (solvable (onLines lines c)) ≡ countsOf (solvable c)
+unfolding countsOf solvable tooMany latchCount uncontrollableCount controllableCount onLines
+lines-not-counted lines c = by (tooMany base c)
+  where
+    by : (t : Bool) → countsOf (cond t emptyCircuit (onLines lines c)) ≡ countsOf (cond t emptyCircuit c)
+    by true = refl
+    by false = refl
 
 module _ (inputs latches i u k : ℕ) (input controllable latch : List ℕ) (some : i ≡ min inputs (length input))
     (others : u ≡ inputsThat (λ (j : Input). not (j .controllable)) (inputsOf (take i input) controllable))

@@ -15,7 +15,7 @@ use Rattle.below.proofs.laws.Table.{table-same, length-table}
 use Rattle.circuit.specs.Circuit.{Circuit, Latch, Gate, latchCount, uncontrollableCount, controllableCount, inputsThat}
 use Rattle.circuit.specs.Limits.{base}
 use Rattle.circuit.specs.Literal.{constant, variable}
-use Rattle.circuit.specs.Stored.{emptyCircuit, meant, lent, inputsOf, latchesOf, gatesOf, padded, solvable}
+use Rattle.circuit.specs.Stored.{emptyCircuit, meant, onLines, lent, inputsOf, latchesOf, gatesOf, padded, solvable}
 use Rattle.circuit.specs.declared.Circuit.{Circuit as Value}
 use Rattle.circuit.proofs.laws.Solvable.{many-solved-empty, few-solved, few-are}
 use Rattle.game.specs.CircuitGame.{circuitGame}
@@ -132,7 +132,7 @@ made-long net made as-is = ap length (as-is .numbers)
 
 -- a value of the code stands for a circuit that fits
 pub value-room : (v : Value) → length (v .input) ≡ base .inputs → length (v .gate) ≡ base .variable → Room (meant v)
-unfolding meant lent inputsOf latchesOf gatesOf
+unfolding meant onLines lent inputsOf latchesOf gatesOf
 value-room v e f = record {
   inputs = omega (arith, inputs-long, length-take (v .inputs) (v .input));
   latches = omega (arith, latches-long);

@@ -19,6 +19,7 @@ holds-on =
       latches = record { own = 4; next = 2 } ∷ [];
       output = 6;
       gates = record { own = 6; left = 4; right = 3 } ∷ [];
+      lines = 0 ∷ [];
     }
 
 -- in state 1 control 0 errs, although the latch moves to 0 in the same step; control 1 does not

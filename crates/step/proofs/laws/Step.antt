@@ -1,5 +1,5 @@
--- What holds of a step: the next state is a state; the largest variable and bits above a count aren't read; what a valuation of lent
--- lists says. Assumes nothing.
+-- What holds of a step: the next state is a state; the largest variable, the lines of gates and bits above a count aren't read; what a valuation
+-- of lent lists says. Assumes nothing.
 use Prim.Native.Nat.{ℕ, suc, _/_, _%_, _^_, _<_}
 use mathlib.Core.Bool.{Bool, true, false, cond, not}
 use mathlib.Core.List.{List, [], _∷_, map}
@@ -12,7 +12,7 @@ use Rattle.bits.proofs.laws.Digits.{sum-below}
 use Rattle.bits.proofs.laws.Halves.{half-mod, odd-mod}
 use Rattle.circuit.specs.Circuit.{Circuit, Input, Latch, inputsThat, latchCount, uncontrollableCount, controllableCount}
 use Rattle.circuit.specs.Literal.{variable}
-use Rattle.circuit.specs.Stored.{lent, literalOf, inputsOf, latchesOf, gatesOf}
+use Rattle.circuit.specs.Stored.{lent, onLines, literalOf, inputsOf, latchesOf, gatesOf}
 use Rattle.step.specs.declared.Stepped.{Stepped}
 use Rattle.step.specs.NextIn.{nextIn}
 use Rattle.step.specs.Step.{step, errorOf, nextOf}
@@ -27,6 +27,11 @@ unfolding nextOf latchCount
 next-below c s r k =
     let below = truths-below (λ l. literalValue (valuation c s r k) (l .next)) (c .latches) in
     subst (λ (n : ℕ). nextOf c s r k < 2 ^ n) (length-map (c .latches) _) (sum-below 2 _ below)
+
+-- which lines its gates stand on isn't read
+pub lines-not-read : (lines : List ℕ) (c : Circuit) (s r k : ℕ) → step (onLines lines c) s r k ≡ step c s r k
+unfolding step errorOf nextOf valuation onLines
+lines-not-read lines c s r k = refl
 
 module _ (input controllable latch next : List ℕ) (output : ℕ) (gate left right : List ℕ) where
   pub largest-not-read : (m n s r k : ℕ)

@@ -1,24 +1,27 @@
--- The lines behind the header are refused exactly at the first fault in the order of document 01 ("The numbers": lines in file order; then 7 for
--- latches and the output; then symbol lines): everything before that fault is right. Assumes nothing.
-use Prim.Native.Nat.{ℕ, zero, suc, _+_, _≤_}
+-- The lines behind the header are refused exactly at the first fault in the order of document 01 ("The numbers": lines in file order; 02, T-01:
+-- then 7 for what they use; then 16; then symbol lines): everything before that fault is right. Assumes nothing.
+use Prim.Native.Nat.{ℕ, _+_, _≤_}
 use native.Mathlib.Omega.{arith}
 use mathlib.Core.List.{List, [], _∷_, _++_, map, append-assoc}
-use mathlib.Core.Logic.{inl, inr}
-use mathlib.Core.Path.{_≡_, refl, sym, ap, ap₂, _∙_, subst}
-use lib.ListN.{length, getD, take, drop, replicate, length-append, length-replicate}
-use lib.Seq.{drop-drop}
-use Rattle.circuit.specs.Outcome.{taken, refused}
-use Rattle.text.specs.BodyBroken.{BodyBroken, inLines, inUse, inSymbols}
+use mathlib.Core.Logic.{_⊎_, inl, inr}
+use mathlib.Core.Path.{_≡_, refl, sym, ap, _∙_, subst}
+use lib.ListN.{length, drop, replicate, length-append, length-replicate}
+use lib.Seq.{drop-drop, drop-at}
+use Rattle.circuit.specs.Outcome.{Outcome, taken, refused}
+use Rattle.text.specs.BodyBroken.{gatesOn, WellUsed, BodyBroken, inLines, inUse, inCircle, inSymbols}
+use Rattle.text.specs.Circle.{Circle}
 use Rattle.text.specs.FirstFault.{AllRight, FirstFault}
 use Rattle.text.specs.Header.{Header}
 use Rattle.text.specs.InList.{All}
-use Rattle.text.specs.Kind.{Kind, anInput, aLatch, theOutput, aGate, kinds, definedByAll}
+use Rattle.text.specs.Kind.{Kind, anInput, aLatch, theOutput, aGate, kinds, definedByAll, usedBy, usedByAll, gateOf}
 use Rattle.text.specs.NoSymbol.{NoSymbol}
+use Rattle.text.specs.Numbers.{badSymbol, gateCircle}
 use Rattle.text.specs.Read.{linesRead}
-use Rattle.text.specs.Section.{Body, onward}
-use Rattle.text.specs.Stages.{inputSection, latchSection, outputSection, gateSection, lateStage, symbolStage}
-use Rattle.text.specs.Unknown.{lateLiterals, Unknown}
+use Rattle.text.specs.Section.{Body, onward, used}
+use Rattle.text.specs.Stages.{inputSection, latchSection, outputSection, gateSection, lateOf, lateStage, circleStage, symbolStage, circled}
+use Rattle.text.specs.Unknown.{Unknown}
 use Rattle.text.specs.WellFormed.{Known}
+use Rattle.text.proofs.laws.Circle.{circled-none, none-circled, circled-circle, circle-circled}
 use Rattle.text.proofs.laws.FirstFault.{
   body,
   section-first,
@@ -40,21 +43,8 @@ use Rattle.text.proofs.laws.FirstFault.{
 }
 use Rattle.text.proofs.laws.NoSymbol.{symbols-broken, broken-symbols}
 use Rattle.text.proofs.laws.Outcome.{taken-is-not-refused, bind-refused, then-refused}
-use Rattle.text.proofs.laws.Stages.{fileOf, behindLate, behindGates, behindOutput, behindLatches, behindInputs}
-use Rattle.text.proofs.laws.Used.{used-known, known-used, used-unknown, unknown-used}
-
-module _ {A : Type 0} where
-  drop-front : (n : ℕ) (xs ys : List A) → length xs ≡ n → drop n (xs ++ ys) ≡ ys
-  drop-front zero [] ys e = refl
-  drop-front zero (x ∷ xs) ys e = absurd (omega (arith, e))
-  drop-front (suc n) [] ys e = absurd (omega (arith, e))
-  drop-front (suc n) (x ∷ xs) ys e = drop-front n xs ys (omega (arith, e))
-
-  take-front : (n : ℕ) (xs ys : List A) → length xs ≡ n → take n (xs ++ ys) ≡ xs
-  take-front zero [] ys e = refl
-  take-front zero (x ∷ xs) ys e = absurd (omega (arith, e))
-  take-front (suc n) [] ys e = absurd (omega (arith, e))
-  take-front (suc n) (x ∷ xs) ys e = ap {B = List A} (λ r. x ∷ r) (take-front n xs ys (omega (arith, e)))
+use Rattle.text.proofs.laws.Stages.{fileOf, behindCircle, behindLate, behindGates, behindOutput, behindLatches, behindInputs}
+use Rattle.text.proofs.laws.Used.{used-known, known-used, used-unknown, unknown-used, used-section, used-join, used-inputs}
 
 module _ (h : Header) (rest : List (List ℕ)) where
   -- the kinds behind the output, the latches and the inputs
@@ -188,15 +178,50 @@ module _ (h : Header) (rest : List (List ℕ)) where
         ∙ sym (append-assoc (byI ins) dL (dO ++ dG))
         ∙ sym (append-assoc (byL ins lats) dO dG)
 
-    late-all : lateLiterals h allRows ≡ map (λ fs. getD fs 1 0) lats ++ map (λ fs. getD fs 0 0) outs
+    -- how many lines each section has
+    inputs-long : length ins ≡ h .inputs
+    inputs-long = right-length (h .largest) anInput (h .inputs) ins [] rest rI
+
+    latches-long : length lats ≡ h .latches
+    latches-long = right-length (h .largest) aLatch (h .latches) lats (byI ins) restI rL
+
+    output-long : length outs ≡ 1
+    output-long = right-length (h .largest) theOutput 1 outs (byL ins lats) restL rO
+
+    gates-long : length gs ≡ h .gates
+    gates-long = right-length (h .largest) aGate (h .gates) gs (byO ins lats outs) restO rG
+
+    abbrev late : List (List ℕ)
+    late = lateOf (bodyL ins lats) (bodyO ins lats outs) (bodyG ins lats outs gs)
+
+    used-all : usedByAll (kinds h) allRows ≡ map (usedBy anInput) ins ++ late
+    used-all =
+        used-join anInput latchKinds (h .inputs) ins (lats ++ (outs ++ gs)) inputs-long
+        ∙ ap {B = List (List ℕ)} (λ r. map (usedBy anInput) ins ++ r)
+        (used-join aLatch outputKinds (h .latches) lats (outs ++ gs) latches-long
+        ∙ ap {B = List (List ℕ)} (λ r. map (usedBy aLatch) lats ++ r)
+        (used-join theOutput gateKinds 1 outs gs output-long
+        ∙ ap {B = List (List ℕ)} (λ r. map (usedBy theOutput) outs ++ r) (used-section aGate (h .gates) gs gates-long)))
+
+    -- the late 7 goes over all that lines use
+    late-all : lateStage h (bodyL ins lats) (bodyO ins lats outs) (bodyG ins lats outs gs) ≡
+        used (definedByAll (kinds h) allRows) 2 (usedByAll (kinds h) allRows)
     late-all =
-        let i : drop (h .inputs) allRows ≡ lats ++ (outs ++ gs) = drop-front (h .inputs) ins (lats ++ (outs ++ gs))
-        (right-length (h .largest) anInput (h .inputs) ins [] rest rI) in
-        let n : length lats ≡ h .latches = right-length (h .largest) aLatch (h .latches) lats (byI ins) restI rL in
-        ap₂ {C = List ℕ} (λ (a b : List (List ℕ)). map (λ fs. getD fs 1 0) a ++ map (λ fs. getD fs 0 0) b)
-        (ap (take (h .latches)) i ∙ take-front (h .latches) lats (outs ++ gs) n)
-        (ap (take 1) (ap (drop (h .latches)) i ∙ drop-front (h .latches) lats (outs ++ gs) n)
-        ∙ take-front 1 outs gs (right-length (h .largest) theOutput 1 outs (byL ins lats) restL rO))
+        ap (λ (d : List ℕ). used d (2 + h .inputs) late) (sym known-all)
+        ∙ sym (used-inputs (definedByAll (kinds h) allRows) ins late (h .inputs) 2 inputs-long)
+        ∙ ap (used (definedByAll (kinds h) allRows) 2) (sym used-all)
+
+    gates-all : gatesOn h allRows ≡ map gateOf gs
+    gates-all =
+        let front : List (List ℕ) = ins ++ (lats ++ outs) in
+        let long : length front ≡ h .inputs + h .latches + 1 =
+        omega (arith, length-append ins (lats ++ outs), length-append lats outs, inputs-long, latches-long, output-long) in
+        let whole : allRows ≡ front ++ gs =
+        ap {B = List (List ℕ)} (λ r. ins ++ r) (sym (append-assoc lats outs gs)) ∙ sym (append-assoc ins (lats ++ outs) gs) in
+        ap (λ (r : List (List ℕ)). gatesOn h r) whole ∙ ap (map gateOf) (drop-at front gs (h .inputs + h .latches + 1) long)
+
+    circle-all : circleStage h (bodyG ins lats outs gs) ≡ circled (3 + h .inputs + h .latches) (gatesOn h allRows)
+    circle-all = ap (circled (3 + h .inputs + h .latches)) (sym gates-all)
 
   rest-all : drop (length (kinds h)) rest ≡ restG
   rest-all =
@@ -240,38 +265,49 @@ module _ (h : Header) (rest : List (List ℕ)) where
     behind-gates ins lats outs gs rI rL rO rG e =
         elim (then-refused (lateStage h (bodyL ins lats) (bodyO ins lats outs) (bodyG ins lats outs gs))
         (behindLate h (bodyI ins) (bodyL ins lats) (bodyO ins lats outs) (bodyG ins lats outs gs)) number place e) [
-          | inl r ↦ inUse all right (subst (λ (d : List ℕ). Unknown d (2 + h .inputs) (lateLiterals h all) number place) (sym known)
-              (subst (λ (l : List ℕ). Unknown (byG ins lats outs gs) (2 + h .inputs) l number place) (sym late)
-              (used-unknown (byG ins lats outs gs) (2 + h .inputs) lits number place r)))
-          | inr u ↦
-              elim (bind-refused (symbolStage h (bodyG ins lats outs gs))
-              (λ behind. taken (fileOf h (bodyI ins) (bodyL ins lats) (bodyO ins lats outs) (bodyG ins lats outs gs) behind)) number place (u .2)) [
-                | inl r ↦
-                    inSymbols all right
-                    (subst (λ (d : List ℕ). All (Known d) (lateLiterals h all)) (sym known)
-                    (subst (λ (l : List ℕ). All (Known (byG ins lats outs gs)) l) (sym late)
-                    (known-used (byG ins lats outs gs) (2 + h .inputs) lits tt (u .1))))
-                    (subst (λ (ls : List (List ℕ)). NoSymbol h (3 + h .inputs + h .latches + h .gates) [] ls number place) (sym rest-all)
-                    (symbols-broken h (3 + h .inputs + h .latches + h .gates) [] restG number place r))
-                | inr s ↦ absurd (taken-is-not-refused number place (fileOf h (bodyI ins) (bodyL ins lats) (bodyO ins lats outs)
-                    (bodyG ins lats outs gs) (s .0)) (s .2))
-              ]
+          | inl r ↦ inUse all right (used-unknown defined 2 used-there number place (sym (late-all ins lats outs gs rI rL rO rG) ∙ r))
+          | inr u ↦ by (known-used defined 2 used-there tt (sym (late-all ins lats outs gs rI rL rO rG) ∙ u .1)) (u .2)
         ]
       where
         all : List (List ℕ)
         all = ins ++ (lats ++ (outs ++ gs))
 
-        lits : List ℕ
-        lits = map (λ fs. getD fs 1 0) lats ++ map (λ fs. getD fs 0 0) outs
+        defined : List ℕ
+        defined = definedByAll (kinds h) all
+
+        used-there : List (List ℕ)
+        used-there = usedByAll (kinds h) all
 
         right : AllRight (h .largest) (kinds h) [] rest all
         right = all-right ins lats outs gs rI rL rO rG
 
-        known : definedByAll (kinds h) all ≡ byG ins lats outs gs
-        known = known-all ins lats outs gs rI rL rO rG
+        start : ℕ
+        start = 3 + h .inputs + h .latches
 
-        late : lateLiterals h all ≡ lits
-        late = late-all ins lats outs gs rI rL rO rG
+        circle : circleStage h (bodyG ins lats outs gs) ≡ circled start (gatesOn h all)
+        circle = circle-all ins lats outs gs rI rL rO rG
+
+        symbols : WellUsed h all → behindCircle h (bodyI ins) (bodyL ins lats) (bodyO ins lats outs) (bodyG ins lats outs gs) ≡ refused number place
+            → BodyBroken h rest number place
+        symbols w f =
+            elim (bind-refused (symbolStage h (bodyG ins lats outs gs))
+            (λ behind. taken (fileOf h (bodyI ins) (bodyL ins lats) (bodyO ins lats outs) (bodyG ins lats outs gs) behind)) number place f) [
+              | inl r ↦
+                  inSymbols all right w
+                  (subst (λ (ls : List (List ℕ)). NoSymbol h (3 + h .inputs + h .latches + h .gates) [] ls number place) (sym rest-all)
+                  (symbols-broken h (3 + h .inputs + h .latches + h .gates) [] restG number place r))
+              | inr s ↦ absurd (taken-is-not-refused number place (fileOf h (bodyI ins) (bodyL ins lats) (bodyO ins lats outs)
+                  (bodyG ins lats outs gs) (s .0)) (s .2))
+            ]
+
+        by : All (All (Known defined)) used-there
+            → behindLate h (bodyI ins) (bodyL ins lats) (bodyO ins lats outs) (bodyG ins lats outs gs) ≡ refused number place → BodyBroken h rest number place
+        by known f =
+            elim (then-refused (circleStage h (bodyG ins lats outs gs))
+            (behindCircle h (bodyI ins) (bodyL ins lats) (bodyO ins lats outs) (bodyG ins lats outs gs)) number place f) [
+              | inl r ↦ inCircle all right known (circled-circle (gatesOn h all) start number place (sym circle ∙ r))
+              | inr u ↦ symbols (record { known = known; noCircle = circled-none (gatesOn h all) start tt (sym circle ∙ u .1) }) (u .2)
+            ]
 
     behind-output : (ins lats outs : List (List ℕ)) → RightI ins → RightL ins lats → RightO ins lats outs
         → behindOutput h (bodyI ins) (bodyL ins lats) (bodyO ins lats outs) ≡ refused number place → BodyBroken h rest number place
@@ -358,67 +394,68 @@ module _ (h : Header) (rest : List (List ℕ)) where
     first-lines (behind ins rI f) =
         first-latches ins rI (where-first (h .largest) aLatch outputKinds number place (h .latches) (2 + h .inputs) (byI ins) restI f)
 
-    use-refused : (rows : List (List ℕ)) → Sections rows → Unknown (definedByAll (kinds h) rows) (2 + h .inputs) (lateLiterals h rows) number place
-        → linesRead h rest ≡ refused number place
-    unfolding linesRead
-    use-refused rows s u =
-        let all : List (List ℕ) = s .ins ++ (s .lats ++ (s .outs ++ s .gs)) in
-        let v : Unknown (definedByAll (kinds h) all) (2 + h .inputs) (lateLiterals h all) number place =
-        subst (λ (r : List (List ℕ)). Unknown (definedByAll (kinds h) r) (2 + h .inputs) (lateLiterals h r) number place) (s .whole) u in
-        let known : definedByAll (kinds h) all ≡ byG (s .ins) (s .lats) (s .outs) (s .gs) =
-        known-all (s .ins) (s .lats) (s .outs) (s .gs) (s .rightI) (s .rightL) (s .rightO) (s .rightG) in
-        let late : lateLiterals h all ≡ map (λ fs. getD fs 1 0) (s .lats) ++ map (λ fs. getD fs 0 0) (s .outs) =
-        late-all (s .ins) (s .lats) (s .outs) (s .gs) (s .rightI) (s .rightL) (s .rightO) (s .rightG) in
-        let refuses : lateStage h (bodyL (s .ins) (s .lats)) (bodyO (s .ins) (s .lats) (s .outs)) (bodyG (s .ins) (s .lats) (s .outs) (s .gs)) ≡
-        refused number place =
-        unknown-used (byG (s .ins) (s .lats) (s .outs) (s .gs)) (2 + h .inputs)
-        (map (λ fs. getD fs 1 0) (s .lats) ++ map (λ fs. getD fs 0 0) (s .outs)) number place
-        (subst (λ (d : List ℕ). Unknown d (2 + h .inputs) (map (λ fs. getD fs 1 0) (s .lats) ++ map (λ fs. getD fs 0 0) (s .outs)) number place) known
-        (subst (λ (l : List ℕ). Unknown (definedByAll (kinds h) all) (2 + h .inputs) l number place) late v))
-        in
-        rw (
-          takes-inputs (s .ins) (s .rightI),
-          takes-latches (s .ins) (s .lats) (s .rightL),
-          takes-output (s .ins) (s .lats) (s .outs) (s .rightO),
-          takes-gates (s .ins) (s .lats) (s .outs) (s .gs) (s .rightG),
-          refuses,
-        )
+    module _ (ins lats outs gs : List (List ℕ)) (rI : RightI ins) (rL : RightL ins lats) (rO : RightO ins lats outs) (rG : RightG ins lats outs gs) where
+      abbrev every : List (List ℕ)
+      every = ins ++ (lats ++ (outs ++ gs))
 
-    symbols-refused : (rows : List (List ℕ)) → Sections rows → All (Known (definedByAll (kinds h) rows)) (lateLiterals h rows)
-        → NoSymbol h (3 + h .inputs + h .latches + h .gates) [] (drop (length (kinds h)) rest) number place → linesRead h rest ≡ refused number place
-    unfolding linesRead
-    symbols-refused rows s k n =
-        let all : List (List ℕ) = s .ins ++ (s .lats ++ (s .outs ++ s .gs)) in
-        let v : All (Known (definedByAll (kinds h) all)) (lateLiterals h all) =
-        subst (λ (r : List (List ℕ)). All (Known (definedByAll (kinds h) r)) (lateLiterals h r)) (s .whole) k in
-        let known : definedByAll (kinds h) all ≡ byG (s .ins) (s .lats) (s .outs) (s .gs) =
-        known-all (s .ins) (s .lats) (s .outs) (s .gs) (s .rightI) (s .rightL) (s .rightO) (s .rightG) in
-        let late : lateLiterals h all ≡ map (λ fs. getD fs 1 0) (s .lats) ++ map (λ fs. getD fs 0 0) (s .outs) =
-        late-all (s .ins) (s .lats) (s .outs) (s .gs) (s .rightI) (s .rightL) (s .rightO) (s .rightG) in
-        let takes : lateStage h (bodyL (s .ins) (s .lats)) (bodyO (s .ins) (s .lats) (s .outs)) (bodyG (s .ins) (s .lats) (s .outs) (s .gs)) ≡ taken tt =
-        used-known (byG (s .ins) (s .lats) (s .outs) (s .gs)) (2 + h .inputs) (map (λ fs. getD fs 1 0) (s .lats) ++ map (λ fs. getD fs 0 0) (s .outs))
-        (subst (λ (d : List ℕ). All (Known d) (map (λ fs. getD fs 1 0) (s .lats) ++ map (λ fs. getD fs 0 0) (s .outs))) known
-        (subst (λ (l : List ℕ). All (Known (definedByAll (kinds h) all)) l) late v))
-        in
-        let refuses : symbolStage h (bodyG (s .ins) (s .lats) (s .outs) (s .gs)) ≡ refused number place =
-        broken-symbols h (3 + h .inputs + h .latches + h .gates) [] restG number place
-        (subst (λ (ls : List (List ℕ)). NoSymbol h (3 + h .inputs + h .latches + h .gates) [] ls number place) rest-all n) in
-        rw (
-          takes-inputs (s .ins) (s .rightI),
-          takes-latches (s .ins) (s .lats) (s .rightL),
-          takes-output (s .ins) (s .lats) (s .outs) (s .rightO),
-          takes-gates (s .ins) (s .lats) (s .outs) (s .gs) (s .rightG),
-          takes,
-          refuses,
-        )
+      abbrev lateHere : Outcome (Unit {0})
+      lateHere = lateStage h (bodyL ins lats) (bodyO ins lats outs) (bodyG ins lats outs gs)
+
+      use-refused : Unknown (definedByAll (kinds h) every) 2 (usedByAll (kinds h) every) number place → linesRead h rest ≡ refused number place
+      unfolding linesRead
+      use-refused u =
+          let refuses : lateHere ≡ refused number place =
+          late-all ins lats outs gs rI rL rO rG ∙ unknown-used (definedByAll (kinds h) every) 2 (usedByAll (kinds h) every) number place u in
+          rw (takes-inputs ins rI, takes-latches ins lats rL, takes-output ins lats outs rO, takes-gates ins lats outs gs rG, refuses)
+
+      late-taken : All (All (Known (definedByAll (kinds h) every))) (usedByAll (kinds h) every) → lateHere ≡ taken tt
+      late-taken k = late-all ins lats outs gs rI rL rO rG ∙ used-known (definedByAll (kinds h) every) 2 (usedByAll (kinds h) every) k
+
+      circle-refused : All (All (Known (definedByAll (kinds h) every))) (usedByAll (kinds h) every)
+          → Circle (3 + h .inputs + h .latches) (gatesOn h every) number place → linesRead h rest ≡ refused number place
+      unfolding linesRead
+      circle-refused k c =
+          let refuses : circleStage h (bodyG ins lats outs gs) ≡ refused number place =
+          circle-all ins lats outs gs rI rL rO rG ∙ circle-circled (gatesOn h every) (3 + h .inputs + h .latches) number place c in
+          rw (takes-inputs ins rI, takes-latches ins lats rL, takes-output ins lats outs rO, takes-gates ins lats outs gs rG, late-taken k, refuses)
+
+      symbols-refused : WellUsed h every → NoSymbol h (3 + h .inputs + h .latches + h .gates) [] (drop (length (kinds h)) rest) number place
+          → linesRead h rest ≡ refused number place
+      unfolding linesRead
+      symbols-refused w n =
+          let takes : circleStage h (bodyG ins lats outs gs) ≡ taken tt =
+          circle-all ins lats outs gs rI rL rO rG ∙ none-circled (gatesOn h every) (3 + h .inputs + h .latches) (w .noCircle) in
+          let refuses : symbolStage h (bodyG ins lats outs gs) ≡ refused number place =
+          broken-symbols h (3 + h .inputs + h .latches + h .gates) [] restG number place
+          (subst (λ (ls : List (List ℕ)). NoSymbol h (3 + h .inputs + h .latches + h .gates) [] ls number place) rest-all n) in
+          rw (
+            takes-inputs ins rI,
+            takes-latches ins lats rL,
+            takes-output ins lats outs rO,
+            takes-gates ins lats outs gs rG,
+            late-taken (w .known),
+            takes,
+            refuses,
+          )
 
     pub broken-lines : BodyBroken h rest number place → linesRead h rest ≡ refused number place
     broken-lines (inLines f) = first-lines (where-first (h .largest) anInput latchKinds number place (h .inputs) 2 [] rest f)
-    broken-lines (inUse rows w u) = use-refused rows (sections rows w) u
-    broken-lines (inSymbols rows w k n) = symbols-refused rows (sections rows w) k n
+    broken-lines (inUse rows w u) =
+        let s : Sections rows = sections rows w in
+        use-refused (s .ins) (s .lats) (s .outs) (s .gs) (s .rightI) (s .rightL) (s .rightO) (s .rightG)
+        (subst (λ (r : List (List ℕ)). Unknown (definedByAll (kinds h) r) 2 (usedByAll (kinds h) r) number place) (s .whole) u)
+    broken-lines (inCircle rows w k c) =
+        let s : Sections rows = sections rows w in
+        circle-refused (s .ins) (s .lats) (s .outs) (s .gs) (s .rightI) (s .rightL) (s .rightO) (s .rightG)
+        (subst (λ (r : List (List ℕ)). All (All (Known (definedByAll (kinds h) r))) (usedByAll (kinds h) r)) (s .whole) k)
+        (subst (λ (r : List (List ℕ)). Circle (3 + h .inputs + h .latches) (gatesOn h r) number place) (s .whole) c)
+    broken-lines (inSymbols rows w u n) =
+        let s : Sections rows = sections rows w in
+        symbols-refused (s .ins) (s .lats) (s .outs) (s .gs) (s .rightI) (s .rightL) (s .rightO) (s .rightG) (subst (WellUsed h) (s .whole) u) n
 
-    -- the numbers of these faults are 4 to 8
-    pub body-range : BodyBroken h rest number place → (4 ≤ number) × (number ≤ 8)
-    body-range (inLines f) = let (low, high) = first-range (h .largest) (kinds h) [] rest 2 number place f in (low, omega (arith, high))
-    body-range (inUse rows w u) = let seven : number ≡ 7 = u .seven in (omega arith, omega arith)
-    body-range (inSymbols rows w k n) = let eight : number ≡ 8 = n .eight in (omega arith, omega arith)
+    -- the numbers of these faults are 4 to 8 and 16
+    pub body-range : BodyBroken h rest number place → (4 ≤ number) × ((number ≤ badSymbol) ⊎ (number ≡ gateCircle))
+    body-range (inLines f) = let (low, high) = first-range (h .largest) (kinds h) [] rest 2 number place f in (low, inl (omega (arith, high)))
+    body-range (inUse rows w u) = let seven : number ≡ 7 = u .seven in (omega arith, inl (omega arith))
+    body-range (inCircle rows w k c) = (omega (arith, c .sixteen), inr (c .sixteen))
+    body-range (inSymbols rows w k n) = let eight : number ≡ 8 = n .eight in (omega arith, inl (omega arith))

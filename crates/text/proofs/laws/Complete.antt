@@ -3,7 +3,6 @@ use Prim.Native.Nat.{ℕ, suc, _+_, _^_}
 use native.Mathlib.Omega.{arith}
 use mathlib.Core.Bool.{true}
 use mathlib.Core.List.{List, [], _∷_, _++_, map, append-nil}
-use mathlib.Core.Logic.{_≢_}
 use mathlib.Core.Path.{_≡_, refl, sym, ap, _∙_}
 use lib.ListN.{length, getD, length-map}
 use borrow.Author.Tests.{le-ltb}
@@ -14,18 +13,22 @@ use Rattle.circuit.specs.Literal.{variable}
 use Rattle.circuit.specs.Outcome.{taken, refuseIf}
 use Rattle.text.specs.Headed.{rowOf}
 use Rattle.text.specs.Header.{headerOf}
+use Rattle.text.specs.InList.{All}
+use Rattle.text.specs.Kind.{aLatch, aGate, usedBy, latchOf, gateOf}
 use Rattle.text.specs.Line.{lines}
-use Rattle.text.specs.Read.{latchOf, gateOf, orBadHeader, linesRead, fileRead}
+use Rattle.text.specs.Read.{orBadHeader, linesRead, fileRead}
 use Rattle.text.specs.Rules.{Rule, inputRule, latchRule, outputRule, gateRule}
 use Rattle.text.specs.Section.{section, onward, used}
+use Rattle.text.specs.Stages.{circled}
 use Rattle.text.specs.Symbol.{symbolLines}
 use Rattle.text.specs.TextFile.{TextFile}
 use Rattle.text.specs.WellFormed.{WellFormed, Known, Apart, ofInputsAndLatches, definedIn}
 use Rattle.text.specs.Within.{Within}
 use Rattle.text.specs.Written.{numberLine, textOf}
+use Rattle.text.proofs.laws.Circle.{none-circled}
 use Rattle.text.proofs.laws.Header.{headerFor, header-numbers, within-of}
 use Rattle.text.proofs.laws.Lines.{bodyLines, behindText, lines-text}
-use Rattle.text.proofs.laws.Lists.{all-append, all-map, pairs-left, pairs-fresh}
+use Rattle.text.proofs.laws.Lists.{Differ, all-append, all-weaker, all-map, pairs-left, pairs-fresh}
 use Rattle.text.proofs.laws.Rules.{inputRow, latchRow, gateRow, inputs-fine, latches-fine, output-fine, gates-fine, news-items}
 use Rattle.text.proofs.laws.Section.{AllFine, section-fine}
 use Rattle.text.proofs.laws.Symbol.{symbol-lines-good}
@@ -61,9 +64,6 @@ ofLatches f = map (λ (l : Latch). variable (l .own)) (f .latches)
 
 abbrev ofGates : TextFile → List ℕ
 ofGates f = map (λ (g : Gate). variable (g .own)) (f .gates)
-
-abbrev Differ : ℕ → ℕ → Type 0
-Differ v u = v ≢ u
 
 module _ (limits : Limits) (f : TextFile) (w : WellFormed limits f) where
   inputs-taken : section (inputRule (f .largest)) (length (f .inputs)) 2
@@ -103,15 +103,39 @@ module _ (limits : Limits) (f : TextFile) (w : WellFormed limits f) where
       section-items (gateRule (f .largest)) 2 gateRow (λ g. g .own) (f .gates) (3 + length (f .inputs) + length (f .latches)) (ofInputsAndLatches f)
       (lines (behindText f)) refl refl (λ x. refl)
       (gates-fine (f .largest) (ofInputsAndLatches f) (f .gates) (w .digits) (w .gates)
-      (pairs-fresh Differ (ofInputsAndLatches f) (ofGates f) (w .once)) (w .operands))
+      (pairs-fresh Differ (ofInputsAndLatches f) (ofGates f) (w .once)))
 
-  used-taken : used (definedIn f) (2 + length (f .inputs)) (map (λ fs. getD fs 1 0) (map latchRow (f .latches)) ++ (f .output ∷ [])) ≡ taken tt
+  -- what latches, output and gates use
+  abbrev usedLatches : List (List ℕ)
+  usedLatches = map (usedBy aLatch) (map latchRow (f .latches))
+
+  abbrev usedGates : List (List ℕ)
+  usedGates = map (usedBy aGate) (map gateRow (f .gates))
+
+  abbrev AllKnown : List ℕ → Type 0
+  AllKnown ls = All (Known (definedIn f)) ls
+
+  used-taken : used (definedIn f) (2 + length (f .inputs)) (usedLatches ++ ((f .output ∷ []) ∷ usedGates)) ≡ taken tt
   used-taken =
-      used-known (definedIn f) (2 + length (f .inputs)) (map (λ fs. getD fs 1 0) (map latchRow (f .latches)) ++ (f .output ∷ []))
-      (all-append (Known (definedIn f)) (map (λ fs. getD fs 1 0) (map latchRow (f .latches))) (f .output ∷ [])
-      (all-map (Known (definedIn f)) (λ (fs : List ℕ). getD fs 1 0) (map latchRow (f .latches))
-      (all-map (λ (fs : List ℕ). Known (definedIn f) (getD fs 1 0)) latchRow (f .latches) (w .nexts)))
-      (w .error, tt))
+      used-known (definedIn f) (2 + length (f .inputs)) (usedLatches ++ ((f .output ∷ []) ∷ usedGates))
+      (all-append AllKnown usedLatches ((f .output ∷ []) ∷ usedGates)
+      (all-map AllKnown (usedBy aLatch) (map latchRow (f .latches))
+      (all-map (λ (fs : List ℕ). AllKnown (usedBy aLatch fs)) latchRow (f .latches)
+      (all-weaker (λ (l : Latch). Known (definedIn f) (l .next)) (λ (l : Latch). AllKnown (l .next ∷ [])) (λ l k. (k, tt)) (f .latches) (w .nexts)))) (
+        (w .error, tt),
+        all-map AllKnown (usedBy aGate) (map gateRow (f .gates))
+            (all-map (λ (fs : List ℕ). AllKnown (usedBy aGate fs)) gateRow (f .gates)
+            (all-weaker (λ (g : Gate). Known (definedIn f) (g .left) × Known (definedIn f) (g .right)) (λ (g : Gate). AllKnown (g .left ∷ g .right ∷ []))
+            (λ g k. (k .0, (k .1, tt))) (f .gates) (w .operands))),
+      ))
+
+  gates-back : map gateOf (map gateRow (f .gates)) ≡ f .gates
+  unfolding gateOf
+  gates-back = map-back gateRow gateOf (λ g. refl) (f .gates)
+
+  circle-taken : circled (3 + length (f .inputs) + length (f .latches)) (map gateOf (map gateRow (f .gates))) ≡ taken tt
+  circle-taken = ap (circled (3 + length (f .inputs) + length (f .latches))) gates-back
+      ∙ none-circled (f .gates) (3 + length (f .inputs) + length (f .latches)) (w .noCircle)
 
   symbols-taken : symbolLines (headerFor f) (3 + length (f .inputs) + length (f .latches) + length (f .gates)) [] (lines (behindText f)) ≡ taken
       (record { symbols = f .symbols; comment = f .comment })
@@ -121,14 +145,14 @@ module _ (limits : Limits) (f : TextFile) (w : WellFormed limits f) where
   lines-taken : linesRead (headerFor f) (bodyLines f (lines (behindText f))) ≡ taken f
   unfolding linesRead onward latchOf gateOf
   lines-taken =
-      rw (inputs-taken, latches-taken, output-taken, gates-taken, used-taken, symbols-taken)
+      rw (inputs-taken, latches-taken, output-taken, gates-taken, used-taken, circle-taken, symbols-taken)
       (λ x.
       taken (record {
         largest = f .largest;
         inputs = map-back inputRow (λ (fs : List ℕ). getD fs 0 0) (λ y. refl) (f .inputs) x;
         latches = map-back latchRow latchOf (λ l. refl) (f .latches) x;
         output = f .output;
-        gates = map-back gateRow gateOf (λ g. refl) (f .gates) x;
+        gates = gates-back x;
         symbols = f .symbols;
         comment = f .comment;
       }))

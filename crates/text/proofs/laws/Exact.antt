@@ -1,4 +1,4 @@
--- Refusals are exact (01, "The numbers", 1 to 9): each number is given exactly when the table says so, in its order and at its place.
+-- Refusals are exact (01, "The numbers", 1 to 9; 02, T-01: 16): each number is given exactly when the table says so, in its order and at its place.
 -- Assumes nothing.
 use Prim.Native.Nat.{ℕ, _+_, _<_, _≤_}
 use native.Mathlib.Omega.{arith}
@@ -13,20 +13,32 @@ use borrow.Author.Tests.{ltb-true, ltb-false, lt-ltb, le-ltb}
 use Rattle.circuit.specs.Circuit.{Circuit, uncontrollableCount, controllableCount, tooMany}
 use Rattle.circuit.specs.Limits.{Limits}
 use Rattle.circuit.specs.Outcome.{Outcome, taken, refused, refuseIf}
-use Rattle.text.specs.BodyBroken.{BodyBroken, inLines, inUse, inSymbols}
+use Rattle.text.specs.BodyBroken.{gatesOn, WellUsed, BodyBroken, inLines, inUse, inCircle, inSymbols}
+use Rattle.text.specs.Circle.{Circle}
 use Rattle.text.specs.Crowded.{Crowded, manyUncontrollable, manyControllable}
 use Rattle.text.specs.FirstFault.{AllRight, FirstFault}
 use Rattle.text.specs.Headed.{Headed, Headless}
 use Rattle.text.specs.Header.{Header, headerNumbers, headerOf, withinLimits}
 use Rattle.text.specs.InList.{All}
-use Rattle.text.specs.Kind.{kinds, definedByAll}
+use Rattle.text.specs.Kind.{kinds, definedByAll, usedByAll}
 use Rattle.text.specs.Line.{lines}
 use Rattle.text.specs.NoSymbol.{NoSymbol}
-use Rattle.text.specs.Numbers.{fileTooLong, badHeader, headerLimit, badLine, badLiteral, definedTwice, notDefined, badSymbol, tooManyInputs}
+use Rattle.text.specs.Numbers.{
+  fileTooLong,
+  badHeader,
+  headerLimit,
+  badLine,
+  badLiteral,
+  definedTwice,
+  notDefined,
+  badSymbol,
+  tooManyInputs,
+  gateCircle,
+}
 use Rattle.text.specs.Read.{orBadHeader, linesRead, fileRead, circuitRead}
 use Rattle.text.specs.Row.{Begun, Row, one, two, three, fourToEight, nine}
 use Rattle.text.specs.TextFile.{TextFile, circuitOf}
-use Rattle.text.specs.Unknown.{lateLiterals, Unknown}
+use Rattle.text.specs.Unknown.{Unknown}
 use Rattle.text.specs.WellFormed.{Known}
 use Rattle.text.specs.Within.{Within}
 use Rattle.text.proofs.laws.BodyBroken.{lines-broken, broken-lines, body-range}
@@ -157,6 +169,17 @@ module _ (limits : Limits) (bytes : List ℕ) where
       by (crowded f g t) = let (n, p) = same number place tooManyInputs 0 e (crowded-refused f g t) in nine n p f g t
       by (fine f g t) = absurd (taken-is-not-refused number place (circuitOf f) (sym (circuit-taken f g t) ∙ e))
 
+  -- a fault behind the header has no number below 4, and not 9
+  not-before : (h : Header) (number place : ℕ) → number < 4 → BodyBroken h (drop 1 (lines bytes)) number place → ⊥
+  not-before h number place few k = omega (arith, few, body-range h (drop 1 (lines bytes)) number place k .0)
+
+  not-nine : (h : Header) (place : ℕ) → BodyBroken h (drop 1 (lines bytes)) tooManyInputs place → ⊥
+  not-nine h place k = by (body-range h (drop 1 (lines bytes)) tooManyInputs place k .1)
+    where
+      by : (tooManyInputs ≤ badSymbol) ⊎ (tooManyInputs ≡ gateCircle) → ⊥
+      by (inl few) = omega (arith, few)
+      by (inr same) = omega (arith, same)
+
   -- a file is refused with a number and a place exactly if the table says so
   pub refused-exactly : (number place : ℕ) → (circuitRead limits bytes ≡ refused number place) ↔ Row limits bytes number place
   refused-exactly number place = (refused-row number place, row-refused number place)
@@ -169,7 +192,7 @@ module _ (limits : Limits) (bytes : List ℕ) where
       by (one n p a) = (a, p)
       by (two n p a b) = absurd (omega (arith, n))
       by (three n p a h t w) = absurd (omega (arith, n))
-      by (fourToEight h b k) = absurd (omega (arith, body-range h (drop 1 (lines bytes)) fileTooLong place k .0))
+      by (fourToEight h b k) = absurd (not-before h fileTooLong place (omega arith) k)
       by (nine n p f e t) = absurd (omega (arith, n))
 
   pub two-exactly : (place : ℕ) → (circuitRead limits bytes ≡ refused badHeader place) ↔ ((length bytes ≤ limits .file) × Headless bytes × (place ≡ 1))
@@ -179,7 +202,7 @@ module _ (limits : Limits) (bytes : List ℕ) where
       by (one n p a) = absurd (omega (arith, n))
       by (two n p a b) = (a, b, p)
       by (three n p a h t w) = absurd (omega (arith, n))
-      by (fourToEight h b k) = absurd (omega (arith, body-range h (drop 1 (lines bytes)) badHeader place k .0))
+      by (fourToEight h b k) = absurd (not-before h badHeader place (omega arith) k)
       by (nine n p f e t) = absurd (omega (arith, n))
 
   pub three-exactly : (place : ℕ) → (circuitRead limits bytes ≡ refused headerLimit place) ↔
@@ -190,7 +213,7 @@ module _ (limits : Limits) (bytes : List ℕ) where
       by (one n p a) = absurd (omega (arith, n))
       by (two n p a b) = absurd (omega (arith, n))
       by (three n p a h t w) = (h, a, t, w, p)
-      by (fourToEight h b k) = absurd (omega (arith, body-range h (drop 1 (lines bytes)) headerLimit place k .0))
+      by (fourToEight h b k) = absurd (not-before h headerLimit place (omega arith) k)
       by (nine n p f e t) = absurd (omega (arith, n))
 
   pub four-to-eight-exactly : (number place : ℕ) → 4 ≤ number → number ≤ 8
@@ -207,7 +230,8 @@ module _ (limits : Limits) (bytes : List ℕ) where
   abbrev body : List (List ℕ)
   body = drop 1 (lines bytes)
 
-  -- 4, 5 and 6 are given for the first line at fault; 7 for that too, or for the first next state or output; 8 for the first bad symbol line
+  -- 4, 5 and 6 are given for the first line at fault; 7 for the first that uses what isn't defined; 16 for the lowest gate that reaches itself; 8 for
+  -- the first bad symbol line
   in-lines : (number place : ℕ) → (number ≡ notDefined → ⊥) → (number ≡ badSymbol → ⊥) → 4 ≤ number → number ≤ 8
       → (circuitRead limits bytes ≡ refused number place) ↔ ((h : Header) × Begun limits bytes h × FirstFault (h .largest) (kinds h) [] body 2 number place)
   in-lines number place seven eight low high =
@@ -217,6 +241,7 @@ module _ (limits : Limits) (bytes : List ℕ) where
           × FirstFault (h .largest) (kinds h) [] body 2 number place
       by (h, b, inLines f) = (h, b, f)
       by (h, b, inUse rows w u) = absurd (seven (u .seven))
+      by (h, b, inCircle rows w k c) = absurd (omega (arith, high, c .sixteen))
       by (h, b, inSymbols rows w k n) = absurd (eight (n .eight))
 
   pub four-exactly : (place : ℕ) → (circuitRead limits bytes ≡ refused badLine place) ↔
@@ -235,43 +260,65 @@ module _ (limits : Limits) (bytes : List ℕ) where
   pub record Late (h : Header) (place : ℕ) : Type 0 where
     pub rows : List (List ℕ)
     pub right : AllRight (h .largest) (kinds h) [] body rows
-    pub unknown : Unknown (definedByAll (kinds h) rows) (2 + h .inputs) (lateLiterals h rows) notDefined place
+    pub unknown : Unknown (definedByAll (kinds h) rows) 2 (usedByAll (kinds h) rows) notDefined place
 
-  pub seven-exactly : (place : ℕ) → (circuitRead limits bytes ≡ refused notDefined place) ↔
-      ((h : Header) × Begun limits bytes h × (FirstFault (h .largest) (kinds h) [] body 2 notDefined place ⊎ Late h place))
+  pub seven-exactly : (place : ℕ) → (circuitRead limits bytes ≡ refused notDefined place) ↔ ((h : Header) × Begun limits bytes h × Late h place)
   seven-exactly place = (
     λ e. by (four-to-eight-exactly notDefined place (omega arith) (omega arith) .0 e),
-    λ t. four-to-eight-exactly notDefined place (omega arith) (omega arith) .1 (t .0, t .1, back (t .0) (t .2)),
+    λ t. four-to-eight-exactly notDefined place (omega arith) (omega arith) .1 (t .0, t .1, inUse (t .2 .rows) (t .2 .right) (t .2 .unknown)),
   )
     where
-      by : (h : Header) × Begun limits bytes h × BodyBroken h body notDefined place → (h : Header) × Begun limits bytes h
-          × (FirstFault (h .largest) (kinds h) [] body 2 notDefined place ⊎ Late h place)
-      by (h, b, inLines f) = (h, b, inl f)
-      by (h, b, inUse rows w u) = (h, b, inr (record { rows = rows; right = w; unknown = u }))
+      by : (h : Header) × Begun limits bytes h × BodyBroken h body notDefined place → (h : Header) × Begun limits bytes h × Late h place
+      by (h, b, inLines f) = absurd (omega (arith, first-range (h .largest) (kinds h) [] body 2 notDefined place f .1))
+      by (h, b, inUse rows w u) = (h, b, record { rows = rows; right = w; unknown = u })
+      by (h, b, inCircle rows w k c) = absurd (omega (arith, c .sixteen))
       by (h, b, inSymbols rows w k n) = absurd (omega (arith, n .eight))
 
-      back : (h : Header) → FirstFault (h .largest) (kinds h) [] body 2 notDefined place ⊎ Late h place → BodyBroken h body notDefined place
-      back h (inl f) = inLines f
-      back h (inr l) = inUse (l .rows) (l .right) (l .unknown)
+  -- lines that are right and use what is defined, and a gate that reaches itself
+  pub record Circling (h : Header) (place : ℕ) : Type 0 where
+    pub rows : List (List ℕ)
+    pub right : AllRight (h .largest) (kinds h) [] body rows
+    pub known : All (All (Known (definedByAll (kinds h) rows))) (usedByAll (kinds h) rows)
+    pub circle : Circle (3 + h .inputs + h .latches) (gatesOn h rows) gateCircle place
 
-  -- lines that are right, next states and output among them
+  pub sixteen-exactly : (place : ℕ) → (circuitRead limits bytes ≡ refused gateCircle place) ↔ ((h : Header) × Begun limits bytes h × Circling h place)
+  sixteen-exactly place = (
+    λ e. by (refused-row gateCircle place e),
+    λ t. row-refused gateCircle place (fourToEight (t .0) (t .1) (inCircle (t .2 .rows) (t .2 .right) (t .2 .known) (t .2 .circle))),
+  )
+    where
+      broken-there : (h : Header) → Begun limits bytes h → BodyBroken h body gateCircle place → (h : Header) × Begun limits bytes h × Circling h place
+      broken-there h b (inLines f) = absurd (omega (arith, first-range (h .largest) (kinds h) [] body 2 gateCircle place f .1))
+      broken-there h b (inUse rows w u) = absurd (omega (arith, u .seven))
+      broken-there h b (inCircle rows w k c) = (h, b, record { rows = rows; right = w; known = k; circle = c })
+      broken-there h b (inSymbols rows w k n) = absurd (omega (arith, n .eight))
+
+      by : Row limits bytes gateCircle place → (h : Header) × Begun limits bytes h × Circling h place
+      by (one n p a) = absurd (omega (arith, n))
+      by (two n p a b) = absurd (omega (arith, n))
+      by (three n p a h t w) = absurd (omega (arith, n))
+      by (fourToEight h b k) = broken-there h b k
+      by (nine n p f e t) = absurd (omega (arith, n))
+
+  -- lines that are right and use what is defined, and no gate reaches itself
   pub record Settled (h : Header) : Type 0 where
     pub rows : List (List ℕ)
     pub right : AllRight (h .largest) (kinds h) [] body rows
-    pub known : All (Known (definedByAll (kinds h) rows)) (lateLiterals h rows)
+    pub wellUsed : WellUsed h rows
 
   pub eight-exactly : (place : ℕ) → (circuitRead limits bytes ≡ refused badSymbol place) ↔
       ((h : Header) × Begun limits bytes h × Settled h × NoSymbol h (3 + h .inputs + h .latches + h .gates) [] (drop (length (kinds h)) body) badSymbol place)
   eight-exactly place = (
     λ e. by (four-to-eight-exactly badSymbol place (omega arith) (omega arith) .0 e),
-    λ t. four-to-eight-exactly badSymbol place (omega arith) (omega arith) .1 (t .0, t .1, inSymbols (t .2 .rows) (t .2 .right) (t .2 .known) (t .3)),
+    λ t. four-to-eight-exactly badSymbol place (omega arith) (omega arith) .1 (t .0, t .1, inSymbols (t .2 .rows) (t .2 .right) (t .2 .wellUsed) (t .3)),
   )
     where
       by : (h : Header) × Begun limits bytes h × BodyBroken h body badSymbol place → (h : Header) × Begun limits bytes h × Settled h
           × NoSymbol h (3 + h .inputs + h .latches + h .gates) [] (drop (length (kinds h)) body) badSymbol place
       by (h, b, inLines f) = absurd (omega (arith, first-range (h .largest) (kinds h) [] body 2 badSymbol place f .1))
       by (h, b, inUse rows w u) = absurd (omega (arith, u .seven))
-      by (h, b, inSymbols rows w k n) = (h, b, record { rows = rows; right = w; known = k }, n)
+      by (h, b, inCircle rows w k c) = absurd (omega (arith, c .sixteen))
+      by (h, b, inSymbols rows w k n) = (h, b, record { rows = rows; right = w; wellUsed = k }, n)
 
   pub nine-exactly : (place : ℕ) → (circuitRead limits bytes ≡ refused tooManyInputs place) ↔
       ((f : TextFile) × (fileRead limits bytes ≡ taken f) × Crowded limits (circuitOf f) × (place ≡ 0))
@@ -281,7 +328,7 @@ module _ (limits : Limits) (bytes : List ℕ) where
       by (one n p a) = absurd (omega (arith, n))
       by (two n p a b) = absurd (omega (arith, n))
       by (three n p a h t w) = absurd (omega (arith, n))
-      by (fourToEight h b k) = absurd (omega (arith, body-range h (drop 1 (lines bytes)) tooManyInputs place k .1))
+      by (fourToEight h b k) = absurd (not-nine h place k)
       by (nine n p f e t) = (f, e, t, p)
 
   -- a circuit is read exactly if a file is taken whose circuit hasn't too many inputs of a sort

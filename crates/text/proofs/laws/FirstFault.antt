@@ -207,9 +207,9 @@ module _ (M : ℕ) (k : Kind) where
         ap {B = List ℕ} (λ d. definedBy k fs ++ d) (defined-join n rows more (omega (arith, e)))
         ∙ sym (append-assoc (definedBy k fs) (definedByAll (replicate n k) rows) (definedByAll js more))
 
--- the numbers of these faults are 4 to 7
+-- the numbers of these faults are 4 to 6
 pub first-range : (M : ℕ) (ks : List Kind) (defined : List ℕ) (ls : List (List ℕ)) (at number place : ℕ) → FirstFault M ks defined ls at number place
-    → (4 ≤ number) × (number ≤ 7)
+    → (4 ≤ number) × (number ≤ 6)
 first-range M [] defined ls at number place w = absurd w
 first-range M (k ∷ ks) defined ls at number place (inl f) = fault-range M k defined (getD ls 0 []) number (f .1)
 first-range M (k ∷ ks) defined ls at number place (inr (fs, r, more)) = first-range M ks (defined ++ definedBy k fs) (drop 1 ls) (suc at) number place more

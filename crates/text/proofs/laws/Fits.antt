@@ -3,21 +3,22 @@ use Prim.Native.Nat.{ℕ, zero, suc, _+_, _*_, _≤_}
 use native.Mathlib.Omega.{arith}
 use mathlib.Core.Bool.{false}
 use mathlib.Core.List.{List, [], _∷_, map}
-use mathlib.Core.Path.{_≡_, refl, sym, ap, _∙_, subst}
+use mathlib.Core.Path.{_≡_, refl, sym, _∙_, subst}
 use lib.ListN.{length, getD, List·getD-eq-default}
-use Rattle.below.specs.Table.{table}
 use Rattle.below.proofs.laws.Table.{length-table, map-table, table-getD}
 use Rattle.circuit.specs.Circuit.{Circuit, Input, Latch, Gate, tooMany}
 use Rattle.circuit.specs.Limits.{base}
 use Rattle.circuit.specs.Outcome.{taken}
 use Rattle.circuit.specs.Stored.{meant, stored, solvable}
 use Rattle.circuit.proofs.laws.Meant.{Fits, meant-stored}
+use Rattle.text.specs.GateUses.{evaluated}
 use Rattle.text.specs.InList.{All}
 use Rattle.text.specs.Read.{circuitRead}
 use Rattle.text.specs.Symbol.{isControllable}
 use Rattle.text.specs.TextFile.{TextFile, circuitOf}
 use Rattle.text.specs.WellFormed.{WellFormed, Defining, LatchLine, GateLine}
 use Rattle.text.proofs.laws.Exact.{taken-circuit}
+use Rattle.text.proofs.laws.GateOrder.{same-count, gates-all}
 use Rattle.text.proofs.laws.Lists.{all-map, all-weaker}
 use Rattle.text.proofs.laws.Sound.{sound}
 
@@ -49,13 +50,16 @@ module _ (f : TextFile) (w : WellFormed base f) where
   unfolding circuitOf inputAt
   few = length-table inputAt (length (f .inputs))
 
+  gate-lines : All (GateLine (f .largest)) (circuitOf f .gates)
+  gate-lines = gates-all f (w .noCircle) (GateLine (f .largest)) (w .gates)
+
   circuit-fits : Fits (circuitOf f)
   unfolding circuitOf
   circuit-fits =
       record {
         inputs = omega (arith, w .inputCount, few);
         latches = w .latchCount;
-        gates = omega (arith, w .room, w .largest);
+        gates = omega (arith, w .room, w .largest, same-count f (w .noCircle));
         input = λ i. subst (λ (l : List ℕ). getD l i 0 ≤ 2 * base .variable + 1) (sym owns) (inputs-most i);
         latch = most-of (LatchLine (f .largest)) (λ (l : Latch). l .own) (2 * base .variable + 1) (λ x p. omega (arith, p .own .most, w .largest))
             (f .latches) (w .latches);
@@ -63,11 +67,12 @@ module _ (f : TextFile) (w : WellFormed base f) where
             (f .latches) (w .latches);
         output = omega (arith, w .output, w .largest);
         gate = most-of (GateLine (f .largest)) (λ (g : Gate). g .own) (2 * base .variable + 1) (λ x p. omega (arith, p .own .most, w .largest))
-            (f .gates) (w .gates);
-        left = most-of (GateLine (f .largest)) (λ (g : Gate). g .left) (2 * base .variable + 1) (λ x p. omega (arith, p .left, w .largest)) (f .gates)
-            (w .gates);
+            (circuitOf f .gates) gate-lines;
+        left = most-of (GateLine (f .largest)) (λ (g : Gate). g .left) (2 * base .variable + 1) (λ x p. omega (arith, p .left, w .largest))
+            (circuitOf f .gates) gate-lines;
         right = most-of (GateLine (f .largest)) (λ (g : Gate). g .right) (2 * base .variable + 1) (λ x p. omega (arith, p .right, w .largest))
-            (f .gates) (w .gates);
+            (circuitOf f .gates) gate-lines;
+        lines = length-table (evaluated (f .gates)) (length (f .gates)) ∙ sym (same-count f (w .noCircle));
       }
 
 -- what is stored of a circuit that was read stands for it

@@ -1,8 +1,7 @@
--- What is wrong with a line (01, "The numbers", 4 to 7): the tests say what the statements say, and a line is refused with a number exactly if it
+-- What is wrong with a line (01, "The numbers", 4 to 6): the tests say what the statements say, and a line is refused with a number exactly if it
 -- is that of its fault, in the order within a line. Assumes nothing.
-use Prim.Native.Nat.{ℕ, zero, suc, _+_, _*_, _%_, _<_, _≤_}
+use Prim.Native.Nat.{ℕ, suc, _+_, _*_, _%_, _<_, _≤_}
 use native.Mathlib.Omega.{arith}
-use native.Mathlib.Nat.{not-suc-le-zero, le-of-suc-le-suc}
 use mathlib.Core.Bool.{Bool, true, false, cond, _||_, true≢false}
 use mathlib.Core.List.{List, [], _∷_}
 use mathlib.Core.Logic.{_⊎_, inl, inr, _↔_}
@@ -18,16 +17,16 @@ use Rattle.circuit.specs.Outcome.{Outcome, taken, refused}
 use Rattle.text.specs.InList.{All, In}
 use Rattle.text.specs.Kind.{Kind, anInput, aLatch, theOutput, aGate, numbersIn, defining, definedBy}
 use Rattle.text.specs.Line.{numbersOf}
-use Rattle.text.specs.LineFault.{BadLiteral, large, oddOwn, zeroOwn, Twice, UnknownOperand, LineFault, four, five, six, seven, LineRight}
+use Rattle.text.specs.LineFault.{BadLiteral, large, oddOwn, zeroOwn, Twice, LineFault, four, five, six, LineRight}
 use Rattle.text.specs.LineIs.{LineIs, Malformed}
-use Rattle.text.specs.Numbers.{badLine, badLiteral, definedTwice, notDefined}
-use Rattle.text.specs.Rules.{firstOf, badOwn, isDefined, unknown, Rule, inputRule, latchRule, outputRule, gateRule}
+use Rattle.text.specs.Numbers.{badLine, badLiteral, definedTwice}
+use Rattle.text.specs.Rules.{firstOf, badOwn, isDefined, unknown, anyUnknown, Rule, inputRule, latchRule, outputRule, gateRule}
 use Rattle.text.specs.Section.{judged}
 use Rattle.text.specs.WellFormed.{Defining, Known}
 use Rattle.text.specs.Written.{numberLine}
 use Rattle.text.proofs.laws.Line.{numbers-line, numbers-is, none-is-not-some}
-use Rattle.text.proofs.laws.Lists.{neither, either, member-in, in-member}
-use Rattle.text.proofs.laws.Rules.{not-too-large, good-own, known-of, known-is}
+use Rattle.text.proofs.laws.Lists.{neither, either, in-at, all-in, member-in, in-member}
+use Rattle.text.proofs.laws.Rules.{not-too-large, good-own, known-of, known-is, all-known-of}
 
 -- the rule of a kind of line, and its tests
 abbrev pub ruleOf : Kind → ℕ → Rule
@@ -48,13 +47,7 @@ sixOf aLatch defined fs = isDefined defined (getD fs 0 0)
 sixOf theOutput defined fs = false
 sixOf aGate defined fs = isDefined defined (getD fs 0 0)
 
-abbrev sevenOf : Kind → (defined fs : List ℕ) → Bool
-sevenOf anInput defined fs = false
-sevenOf aLatch defined fs = false
-sevenOf theOutput defined fs = false
-sevenOf aGate defined fs = unknown defined (getD fs 1 0) || unknown defined (getD fs 2 0)
-
-fault-tests : (k : Kind) (M : ℕ) (defined fs : List ℕ) → ruleOf k M .fault defined fs ≡ firstOf (fiveOf k M fs) (sixOf k defined fs) (sevenOf k defined fs)
+fault-tests : (k : Kind) (M : ℕ) (defined fs : List ℕ) → ruleOf k M .fault defined fs ≡ firstOf (fiveOf k M fs) (sixOf k defined fs)
 unfolding inputRule latchRule outputRule gateRule
 fault-tests anInput M defined fs = refl
 fault-tests aLatch M defined fs = refl
@@ -82,16 +75,6 @@ some-numbers theOutput = (0, refl)
 some-numbers aGate = (2, refl)
 
 -- 5
-in-at : (fs : List ℕ) (i : ℕ) → i < length fs → In fs (getD fs i 0)
-in-at [] i h = absurd (not-suc-le-zero h)
-in-at (x ∷ fs) zero h = inl refl
-in-at (x ∷ fs) (suc i) h = inr (in-at fs i (le-of-suc-le-suc h))
-
-all-in : (P : ℕ → Type 0) (xs : List ℕ) (l : ℕ) → All P xs → In xs l → P l
-all-in P [] l a i = absurd i
-all-in P (x ∷ xs) l a (inl e) = subst P e (a .0)
-all-in P (x ∷ xs) l a (inr i) = all-in P xs l (a .1) i
-
 too-large-is : (M l : ℕ) → tooLarge M l ≡ true → 2 * M + 1 < l
 unfolding tooLarge
 too-large-is M l e = ltb-true (2 * M + 1) l e
@@ -109,21 +92,21 @@ own-bad M k fs l here own e = by (tooLarge M l) (eqb (l % 2) 0) (leb 2 l) refl r
     by false true true f g h = absurd (true≢false (sym (rw (f, g, h) at e)))
 
 five-true : (k : Kind) (M : ℕ) (fs : List ℕ) → length fs ≡ numbersIn k → fiveOf k M fs ≡ true → BadLiteral M k fs
-five-true anInput M fs n e = own-bad M anInput fs (getD fs 0 0) (in-at fs 0 (omega (arith, n))) (inl refl) e
+five-true anInput M fs n e = own-bad M anInput fs (getD fs 0 0) (in-at 0 fs 0 (omega (arith, n))) (inl refl) e
 five-true aLatch M fs n e =
     elim (either (badOwn M (getD fs 0 0)) (tooLarge M (getD fs 1 0)) e) [
-      | inl f ↦ own-bad M aLatch fs (getD fs 0 0) (in-at fs 0 (omega (arith, n))) (inl refl) f
-      | inr f ↦ large (getD fs 1 0) (in-at fs 1 (omega (arith, n))) (too-large-is M (getD fs 1 0) f)
+      | inl f ↦ own-bad M aLatch fs (getD fs 0 0) (in-at 0 fs 0 (omega (arith, n))) (inl refl) f
+      | inr f ↦ large (getD fs 1 0) (in-at 0 fs 1 (omega (arith, n))) (too-large-is M (getD fs 1 0) f)
     ]
-five-true theOutput M fs n e = large (getD fs 0 0) (in-at fs 0 (omega (arith, n))) (too-large-is M (getD fs 0 0) e)
+five-true theOutput M fs n e = large (getD fs 0 0) (in-at 0 fs 0 (omega (arith, n))) (too-large-is M (getD fs 0 0) e)
 five-true aGate M fs n e =
     elim (either (badOwn M (getD fs 0 0) || tooLarge M (getD fs 1 0)) (tooLarge M (getD fs 2 0)) e) [
       | inl f ↦
           elim (either (badOwn M (getD fs 0 0)) (tooLarge M (getD fs 1 0)) f) [
-            | inl g ↦ own-bad M aGate fs (getD fs 0 0) (in-at fs 0 (omega (arith, n))) (inl refl) g
-            | inr g ↦ large (getD fs 1 0) (in-at fs 1 (omega (arith, n))) (too-large-is M (getD fs 1 0) g)
+            | inl g ↦ own-bad M aGate fs (getD fs 0 0) (in-at 0 fs 0 (omega (arith, n))) (inl refl) g
+            | inr g ↦ large (getD fs 1 0) (in-at 0 fs 1 (omega (arith, n))) (too-large-is M (getD fs 1 0) g)
           ]
-      | inr f ↦ large (getD fs 2 0) (in-at fs 2 (omega (arith, n))) (too-large-is M (getD fs 2 0) f)
+      | inr f ↦ large (getD fs 2 0) (in-at 0 fs 2 (omega (arith, n))) (too-large-is M (getD fs 2 0) f)
     ]
 
 abbrev Small : ℕ → ℕ → Type 0
@@ -188,46 +171,40 @@ unknown-says defined l = (λ e k. true≢false (sym e ∙ known-is defined l k),
     by other true e = e
     by other false e = absurd (other (known-of defined l e))
 
-unknown-of : (defined : List ℕ) (y z : ℕ) → (unknown defined y || unknown defined z ≡ true) ↔ ((l : ℕ) × In (y ∷ z ∷ []) l × (Known defined l → ⊥))
-unknown-of defined y z = (λ e. to (either (unknown defined y) (unknown defined z) e), back)
+-- of a line's literals one isn't known
+any-unknown-is : (defined ls : List ℕ) → anyUnknown defined ls ≡ true → (l : ℕ) × In ls l × (Known defined l → ⊥)
+unfolding anyUnknown
+any-unknown-is defined [] e = absurd (true≢false (sym e))
+any-unknown-is defined (m ∷ ms) e = by (either (unknown defined m) (anyUnknown defined ms) e) (any-unknown-is defined ms)
   where
-    to : (unknown defined y ≡ true) ⊎ (unknown defined z ≡ true) → (l : ℕ) × In (y ∷ z ∷ []) l × (Known defined l → ⊥)
-    to (inl e) = (y, inl refl, unknown-says defined y .0 e)
-    to (inr e) = (z, inr (inl refl), unknown-says defined z .0 e)
+    by : (unknown defined m ≡ true) ⊎ (anyUnknown defined ms ≡ true) → (anyUnknown defined ms ≡ true → (l : ℕ) × In ms l × (Known defined l → ⊥))
+        → (l : ℕ) × In (m ∷ ms) l × (Known defined l → ⊥)
+    by (inl f) ih = (m, inl refl, unknown-says defined m .0 f)
+    by (inr f) ih = let (l, i, n) = ih f in (l, inr i, n)
 
-    second : (a : Bool) → unknown defined z ≡ true → (a || unknown defined z) ≡ true
-    second true e = refl
-    second false e = e
-
-    back : (l : ℕ) × In (y ∷ z ∷ []) l × (Known defined l → ⊥) → (unknown defined y || unknown defined z) ≡ true
-    back (l, inl e, n) = rw (unknown-says defined y .1 (λ k. n (subst (Known defined) e k)))
-    back (l, inr (inl e), n) = second (unknown defined y) (unknown-says defined z .1 (λ k. n (subst (Known defined) e k)))
-    back (l, inr (inr b), n) = absurd b
-
-seven-says : (k : Kind) (defined fs : List ℕ) → (sevenOf k defined fs ≡ true) ↔ UnknownOperand k defined fs
-seven-says anInput defined fs = (λ e. absurd (true≢false (sym e)), λ t. absurd (t .1))
-seven-says aLatch defined fs = (λ e. absurd (true≢false (sym e)), λ t. absurd (t .1))
-seven-says theOutput defined fs = (λ e. absurd (true≢false (sym e)), λ t. absurd (t .1))
-seven-says aGate defined fs = unknown-of defined (getD fs 1 0) (getD fs 2 0)
+pub any-unknown-says : (defined ls : List ℕ) → (anyUnknown defined ls ≡ true) ↔ ((l : ℕ) × In ls l × (Known defined l → ⊥))
+any-unknown-says defined ls = (any-unknown-is defined ls, λ t. by t (anyUnknown defined ls) refl)
+  where
+    by : (l : ℕ) × In ls l × (Known defined l → ⊥) → (t : Bool) → anyUnknown defined ls ≡ t → anyUnknown defined ls ≡ true
+    by (l, i, n) true e = e
+    by (l, i, n) false e = absurd (n (all-in (Known defined) ls l (all-known-of defined ls e) i))
 
 -- how a line is judged
 abbrev pub lineJudged : Kind → ℕ → List ℕ → ℕ → List ℕ → Outcome (List ℕ)
 lineJudged k M defined place line = judged (ruleOf k M) defined place (numbersOf (ruleOf k M .count) line)
 
--- the first of three tests
-abbrev verdict : (place : ℕ) (fs : List ℕ) (five six seven : Bool) → Outcome (List ℕ)
-verdict place fs true b d = refused badLiteral place
-verdict place fs false true d = refused definedTwice place
-verdict place fs false false true = refused notDefined place
-verdict place fs false false false = taken fs
+-- the first of two tests
+abbrev verdict : (place : ℕ) (fs : List ℕ) (five six : Bool) → Outcome (List ℕ)
+verdict place fs true b = refused badLiteral place
+verdict place fs false true = refused definedTwice place
+verdict place fs false false = taken fs
 
-judged-by : (rule : Rule) (defined : List ℕ) (place : ℕ) (fs : List ℕ) (a b d : Bool) → rule .fault defined fs ≡ firstOf a b d
-    → judged rule defined place (some fs) ≡ verdict place fs a b d
+judged-by : (rule : Rule) (defined : List ℕ) (place : ℕ) (fs : List ℕ) (a b : Bool) → rule .fault defined fs ≡ firstOf a b
+    → judged rule defined place (some fs) ≡ verdict place fs a b
 unfolding judged firstOf
-judged-by rule defined place fs true b d e = rw (e, judged)
-judged-by rule defined place fs false true d e = rw (e, judged)
-judged-by rule defined place fs false false true e = rw (e, judged)
-judged-by rule defined place fs false false false e = rw (e, judged)
+judged-by rule defined place fs true b e = rw (e, judged)
+judged-by rule defined place fs false true e = rw (e, judged)
+judged-by rule defined place fs false false e = rw (e, judged)
 
 module _ (k : Kind) (M : ℕ) (defined line : List ℕ) where
   -- the numbers of a line in form are read, and only those
@@ -243,8 +220,8 @@ module _ (k : Kind) (M : ℕ) (defined line : List ℕ) where
       subst (λ (m : ℕ). LineIs m line fs) (sym is) (numbers-is c line fs (ap (λ (m : ℕ). numbersOf m line) (sym (count-is k M ∙ is)) ∙ e))
 
   judged-line : (place : ℕ) (fs : List ℕ) → LineIs (numbersIn k) line fs
-      → lineJudged k M defined place line ≡ verdict place fs (fiveOf k M fs) (sixOf k defined fs) (sevenOf k defined fs)
-  judged-line place fs i = ap (judged (ruleOf k M) defined place) (line-read fs i) ∙ judged-by (ruleOf k M) defined place fs _ _ _ (fault-tests k M defined fs)
+      → lineJudged k M defined place line ≡ verdict place fs (fiveOf k M fs) (sixOf k defined fs)
+  judged-line place fs i = ap (judged (ruleOf k M) defined place) (line-read fs i) ∙ judged-by (ruleOf k M) defined place fs _ _ (fault-tests k M defined fs)
 
   malformed-refused : (place : ℕ) → Malformed (numbersIn k) line → lineJudged k M defined place line ≡ refused badLine place
   unfolding judged
@@ -274,23 +251,16 @@ module _ (k : Kind) (M : ℕ) (defined line : List ℕ) where
   told : (place : ℕ) → Told place (lineJudged k M defined place line)
   told place = by form
     where
-      with-tests : (fs : List ℕ) → LineIs (numbersIn k) line fs → (a b d : Bool) → (a ≡ true) ↔ BadLiteral M k fs → (b ≡ true) ↔ Twice k defined fs
-          → (d ≡ true) ↔ UnknownOperand k defined fs → Told place (verdict place fs a b d)
-      with-tests fs i true b d p q r = (refl, five refl fs i (p .0 refl))
-      with-tests fs i false true d p q r = (refl, six refl fs i (test-fails false p refl) (q .0 refl))
-      with-tests fs i false false true p q r = (refl, seven refl fs i (test-fails false p refl) (test-fails false q refl) (r .0 refl))
-      with-tests fs i false false false p q r = record {
-        is = i;
-        literals = test-fails false p refl;
-        once = test-fails false q refl;
-        known =
-            test-fails false r refl;
-      }
+      with-tests : (fs : List ℕ) → LineIs (numbersIn k) line fs → (a b : Bool) → (a ≡ true) ↔ BadLiteral M k fs → (b ≡ true) ↔ Twice k defined fs
+          → Told place (verdict place fs a b)
+      with-tests fs i true b p q = (refl, five refl fs i (p .0 refl))
+      with-tests fs i false true p q = (refl, six refl fs i (test-fails false p refl) (q .0 refl))
+      with-tests fs i false false p q = record { is = i; literals = test-fails false p refl; once = test-fails false q refl }
 
       by : Formed → Told place (lineJudged k M defined place line)
       by (not-formed m) = subst (Told place) (sym (malformed-refused place m)) (refl, four refl m)
       by (formed fs i) = subst (Told place) (sym (judged-line place fs i))
-          (with-tests fs i _ _ _ (five-says k M fs (i .count)) (six-says k defined fs) (seven-says k defined fs))
+          (with-tests fs i _ _ (five-says k M fs (i .count)) (six-says k defined fs))
 
   pub judged-fault : (place number at : ℕ) → lineJudged k M defined place line ≡ refused number at → (at ≡ place) × LineFault M k defined line number
   judged-fault place number at e = subst (Told place) e (told place)
@@ -304,24 +274,16 @@ module _ (k : Kind) (M : ℕ) (defined line : List ℕ) where
       judged-line place fs i ∙ rw (five-says k M fs (i .count) .1 p) (λ x. refused (sym n x) place)
   fault-judged place number (six n fs i p q) =
       judged-line place fs i ∙ rw (fails-test (fiveOf k M fs) (five-says k M fs (i .count)) p, six-says k defined fs .1 q) (λ x. refused (sym n x) place)
-  fault-judged place number (seven n fs i p q r) =
-      judged-line place fs i ∙ rw (
-        fails-test (fiveOf k M fs) (five-says k M fs (i .count)) p,
-        fails-test (sixOf k defined fs) (six-says k defined fs) q,
-        seven-says k defined fs .1 r,
-      ) (λ x. refused (sym n x) place)
 
   pub right-judged : (place : ℕ) (fs : List ℕ) → LineRight M k defined line fs → lineJudged k M defined place line ≡ taken fs
   right-judged place fs w =
       judged-line place fs (w .is) ∙ rw (
         fails-test (fiveOf k M fs) (five-says k M fs (w .is .count)) (w .literals),
         fails-test (sixOf k defined fs) (six-says k defined fs) (w .once),
-        fails-test (sevenOf k defined fs) (seven-says k defined fs) (w .known),
       )
 
--- the numbers of these faults are 4 to 7
-pub fault-range : (M : ℕ) (k : Kind) (defined line : List ℕ) (number : ℕ) → LineFault M k defined line number → (4 ≤ number) × (number ≤ 7)
+-- the numbers of these faults are 4 to 6
+pub fault-range : (M : ℕ) (k : Kind) (defined line : List ℕ) (number : ℕ) → LineFault M k defined line number → (4 ≤ number) × (number ≤ 6)
 fault-range M k defined line number (four n m) = (omega (arith, n), omega (arith, n))
 fault-range M k defined line number (five n fs i p) = (omega (arith, n), omega (arith, n))
 fault-range M k defined line number (six n fs i p q) = (omega (arith, n), omega (arith, n))
-fault-range M k defined line number (seven n fs i p q r) = (omega (arith, n), omega (arith, n))

@@ -1,16 +1,15 @@
 -- Printing is read back (01, "The numbers", last paragraph): what is printed of a circuit that was read is read as that circuit, and is at most
 -- 15,157 bytes long. Assumes nothing.
-use Prim.Native.Nat.{ℕ, zero, suc, _<_, _≤_}
+use Prim.Native.Nat.{ℕ, _<_, _≤_}
 use native.Mathlib.Omega.{arith}
 use native.Mathlib.Nat.{zero-add}
 use mathlib.Core.Bool.{false}
-use mathlib.Core.List.{List, [], _∷_, _++_, map}
+use mathlib.Core.List.{List, [], _∷_, map}
 use mathlib.Core.Option.{none}
-use mathlib.Core.Path.{_≡_, refl, sym, ap, ap₂, _∙_, subst}
+use mathlib.Core.Path.{_≡_, refl, sym, ap, _∙_, subst}
 use lib.ListN.{length, getD, length-map, List·getD-map}
 use lib.Seq.{ext-getD}
-use Rattle.below.specs.Table.{table}
-use Rattle.below.proofs.laws.Table.{length-table, getD-table}
+use Rattle.below.proofs.laws.Table.{length-table, getD-table, table-same}
 use Rattle.circuit.specs.Circuit.{Circuit, Input, tooMany}
 use Rattle.circuit.specs.Limits.{base}
 use Rattle.circuit.specs.Outcome.{taken}
@@ -20,10 +19,11 @@ use Rattle.text.specs.Printed.{printedSymbols, printedFile, printed}
 use Rattle.text.specs.Read.{fileRead, circuitRead}
 use Rattle.text.specs.Symbol.{Symbol, prefix, isNameByte, isControllable}
 use Rattle.text.specs.TextFile.{TextFile, circuitOf}
-use Rattle.text.specs.WellFormed.{WellFormed, ofInput, SymbolLine}
+use Rattle.text.specs.WellFormed.{WellFormed, ReachesItself, ofInput, SymbolLine}
 use Rattle.text.specs.Written.{textOf}
 use Rattle.text.proofs.laws.Complete.{complete}
 use Rattle.text.proofs.laws.Exact.{taken-circuit}
+use Rattle.text.proofs.laws.GateOrder.{gate-lines-back}
 use Rattle.text.proofs.laws.Lists.{all-append, all-weaker}
 use Rattle.text.proofs.laws.Number.{decimal-each, decimal-length, digit-range}
 use Rattle.text.proofs.laws.Outcome.{taken-is}
@@ -51,11 +51,6 @@ printed-line f s h a =
       bytes = rw (a .name) (all-append (λ b. (32 ≤ b) × (b ≤ 126)) prefix (decimal (s .position)) prefix-bytes
           (digit-bytes (decimal (s .position)) (decimal-each (s .position))));
     }
-
-table-same : {A : Type 0} (f g : ℕ → A) (n : ℕ) → ((i : ℕ) → i < n → f i ≡ g i) → table f n ≡ table g n
-unfolding table
-table-same f g zero e = refl
-table-same {A} f g (suc n) e = ap₂ {C = List A} (λ a b. a ++ (b ∷ [])) (table-same f g n (λ i h. e i (omega arith))) (e n (omega arith))
 
 abbrev noInput : Input
 noInput = record { own = 0; controllable = false }
@@ -86,14 +81,14 @@ printedOf f = record {
   comment = none;
 }
 
-printed-is : (f : TextFile) → printedFile (circuitOf f) ≡ printedOf f
+printed-is : (f : TextFile) → ((i : ℕ) → ReachesItself (f .gates) i → ⊥) → printedFile (circuitOf f) ≡ printedOf f
 unfolding printedFile circuitOf
-printed-is f = λ x. record {
+printed-is f never = λ x. record {
   largest = f .largest;
   inputs = inputs-back f x;
   latches = f .latches;
   output = f .output;
-  gates = f .gates;
+  gates = gate-lines-back f never x;
   symbols =
       printedSymbols 0 (circuitOf f .inputs);
   comment = none;
@@ -133,6 +128,7 @@ printed-form f w =
       gates = w .gates;
       once = w .once;
       operands = w .operands;
+      noCircle = w .noCircle;
       nexts = w .nexts;
       error = w .error;
       symbols = all-weaker (PrintedAt 0 (length (f .inputs))) (SymbolLine (printedOf f)) (λ s a. printed-line (printedOf f) s (w .inputCount) a)
@@ -156,7 +152,14 @@ same-circuit f =
     table-same {A = Input} (λ i. record { own = getD (f .inputs) i 0; controllable = isControllable (printedSymbols 0 (circuitOf f .inputs)) i })
     (λ i. record { own = getD (f .inputs) i 0; controllable = isControllable (f .symbols) i }) (length (f .inputs))
     (λ i h x. record { own = getD (f .inputs) i 0; controllable = same-controllable f i h x }) in
-    λ x. record { largest = f .largest; inputs = inputs x; latches = f .latches; output = f .output; gates = f .gates }
+    λ x. record {
+      largest = f .largest;
+      inputs = inputs x;
+      latches = f .latches;
+      output = f .output;
+      gates = circuitOf f .gates;
+      lines = circuitOf f .lines;
+    }
 
 -- the file that a circuit was read from
 record Source (c : Circuit) : Type 0 where
@@ -170,9 +173,9 @@ source bytes c e =
     let (f, t, few, means) = taken-circuit base bytes c .0 e in
     record { file = f; form = sound base bytes f refl (omega arith) t .1; few = few; means = means }
 
-printed-text : (f : TextFile) → printed (circuitOf f) ≡ textOf (printedOf f)
+printed-text : (f : TextFile) → WellFormed base f → printed (circuitOf f) ≡ textOf (printedOf f)
 unfolding printed
-printed-text f = ap textOf (printed-is f)
+printed-text f w = ap textOf (printed-is f (w .noCircle))
 
 -- what is printed of a circuit that was read is read as that circuit
 pub printed-reads-back : (bytes : List ℕ) (c : Circuit) → circuitRead base bytes ≡ taken c → circuitRead base (printed c) ≡ taken c
@@ -180,7 +183,7 @@ printed-reads-back bytes c e =
     let s : Source c = source bytes c e in
     let f : TextFile = s .file in
     let read : fileRead base (printed (circuitOf f)) ≡ taken (printedOf f) =
-    ap (fileRead base) (printed-text f) ∙ complete base (printedOf f) (printed-form f (s .form)) refl in
+    ap (fileRead base) (printed-text f (s .form)) ∙ complete base (printedOf f) (printed-form f (s .form)) refl in
     let back : circuitRead base (printed (circuitOf f)) ≡ taken (circuitOf f) =
     taken-circuit base (printed (circuitOf f)) (circuitOf f) .1 (printedOf f, read, ap (tooMany base) (same-circuit f) ∙ s .few, same-circuit f) in
     subst (λ (d : Circuit). circuitRead base (printed d) ≡ taken d) (s .means) back
@@ -194,6 +197,6 @@ pub printed-length : (bytes : List ℕ) (c : Circuit) → circuitRead base bytes
 printed-length bytes c e =
     let s : Source c = source bytes c e in
     let f : TextFile = s .file in
-    let short : length (printed (circuitOf f)) ≤ 15157 = subst (λ (t : List ℕ). length t ≤ 15157) (sym (printed-text f))
+    let short : length (printed (circuitOf f)) ≤ 15157 = subst (λ (t : List ℕ). length t ≤ 15157) (sym (printed-text f (s .form)))
     (text-length (printedOf f) (printable f (s .form))) in
     subst (λ (d : Circuit). length (printed d) ≤ 15157) (s .means) short

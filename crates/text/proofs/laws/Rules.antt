@@ -15,10 +15,10 @@ use Rattle.bits.proofs.laws.Bytes.{both-true}
 use Rattle.circuit.specs.Circuit.{Latch, Gate}
 use Rattle.circuit.specs.Literal.{variable, constant, mayDefine, tooLarge}
 use Rattle.text.specs.InList.{All}
-use Rattle.text.specs.Numbers.{badLiteral, definedTwice, notDefined}
-use Rattle.text.specs.Read.{latchOf, gateOf}
-use Rattle.text.specs.Rules.{firstOf, badOwn, isDefined, unknown, Rule, inputRule, latchRule, outputRule, gateRule}
-use Rattle.text.specs.WellFormed.{Defining, LatchLine, GateLine, Known, Operands}
+use Rattle.text.specs.Kind.{latchOf, gateOf}
+use Rattle.text.specs.Numbers.{badLiteral, definedTwice}
+use Rattle.text.specs.Rules.{firstOf, badOwn, isDefined, unknown, anyUnknown, Rule, inputRule, latchRule, outputRule, gateRule}
+use Rattle.text.specs.WellFormed.{Defining, LatchLine, GateLine, Known}
 use Rattle.text.proofs.laws.Line.{none-is-not-some}
 use Rattle.text.proofs.laws.Lists.{neither, neither-of, Fresh, member-in, in-member, no-member, no-member-of}
 use Rattle.text.proofs.laws.Section.{news, AllFine}
@@ -61,17 +61,29 @@ known-is defined l (inr i) = by (ltb l 2)
     by true = refl
     by false = rw (in-member (variable l) defined i)
 
--- no fault, no number
-no-fault : (five six seven : Bool) → firstOf five six seven ≡ none → (five ≡ false) × (six ≡ false) × (seven ≡ false)
-unfolding firstOf
-no-fault true six seven e = absurd (none-is-not-some badLiteral (sym e))
-no-fault false true seven e = absurd (none-is-not-some definedTwice (sym e))
-no-fault false false true e = absurd (none-is-not-some notDefined (sym e))
-no-fault false false false e = (refl, refl, refl)
+-- of a line's literals
+pub all-known-of : (defined ls : List ℕ) → anyUnknown defined ls ≡ false → All (Known defined) ls
+unfolding anyUnknown
+all-known-of defined [] e = tt
+all-known-of defined (l ∷ ls) e =
+    let (a, b) = neither (unknown defined l) (anyUnknown defined ls) e in (known-of defined l a, all-known-of defined ls b)
 
-no-fault-of : (five six seven : Bool) → five ≡ false → six ≡ false → seven ≡ false → firstOf five six seven ≡ none
+pub all-known-is : (defined ls : List ℕ) → All (Known defined) ls → anyUnknown defined ls ≡ false
+unfolding anyUnknown
+all-known-is defined [] a = refl
+all-known-is defined (l ∷ ls) a =
+    neither-of (unknown defined l) (anyUnknown defined ls) (known-is defined l (a .0)) (all-known-is defined ls (a .1))
+
+-- no fault, no number
+no-fault : (five six : Bool) → firstOf five six ≡ none → (five ≡ false) × (six ≡ false)
 unfolding firstOf
-no-fault-of five six seven a b c = rw (a, b, c)
+no-fault true six e = absurd (none-is-not-some badLiteral (sym e))
+no-fault false true e = absurd (none-is-not-some definedTwice (sym e))
+no-fault false false e = (refl, refl)
+
+no-fault-of : (five six : Bool) → five ≡ false → six ≡ false → firstOf five six ≡ none
+unfolding firstOf
+no-fault-of five six a b = rw (a, b)
 
 fresh-own : (defined : List ℕ) (l : ℕ) → isDefined defined l ≡ false → All (λ w. w ≢ variable l) defined
 unfolding isDefined
@@ -100,7 +112,7 @@ inputs-fine M defined (x ∷ xs) s a f = (
     count = refl;
     below = (omega (arith, a .0 .most, s), tt);
     fine =
-        no-fault-of (badOwn M x) (isDefined defined x) false (good-own-of M x (a .0)) (fresh-own-of defined x (f .0)) refl;
+        no-fault-of (badOwn M x) (isDefined defined x) (good-own-of M x (a .0)) (fresh-own-of defined x (f .0));
   },
   inputs-fine M (defined ++ (variable x ∷ [])) xs s (a .1) (f .1),
 )
@@ -113,9 +125,9 @@ latches-fine M defined (l ∷ ls) s a f = (
   record {
     count = refl;
     below = (omega (arith, a .0 .own .most, s), (omega (arith, a .0 .next, s), tt));
-    fine = no-fault-of (badOwn M (l .own) || tooLarge M (l .next)) (isDefined defined (l .own)) false
+    fine = no-fault-of (badOwn M (l .own) || tooLarge M (l .next)) (isDefined defined (l .own))
         (neither-of (badOwn M (l .own)) (tooLarge M (l .next)) (good-own-of M (l .own) (a .0 .own)) (not-too-large-of M (l .next) (a .0 .next)))
-        (fresh-own-of defined (l .own) (f .0)) refl;
+        (fresh-own-of defined (l .own) (f .0));
   },
   latches-fine M (defined ++ (variable (l .own) ∷ [])) ls s (a .1) (f .1),
 )
@@ -123,27 +135,23 @@ latches-fine M defined (l ∷ ls) s a f = (
 pub output-fine : (M : ℕ) (defined : List ℕ) (l : ℕ) → 2 * M + 1 < 10 ^ 7 → l ≤ 2 * M + 1 → AllFine (outputRule M) defined ((l ∷ []) ∷ [])
 unfolding outputRule
 output-fine M defined l s h =
-    (record { count = refl; below = (omega (arith, h, s), tt); fine = no-fault-of (tooLarge M l) false false (not-too-large-of M l h) refl refl }, tt)
+    (record { count = refl; below = (omega (arith, h, s), tt); fine = no-fault-of (tooLarge M l) false (not-too-large-of M l h) refl }, tt)
 
 pub gates-fine : (M : ℕ) (defined : List ℕ) (gs : List Gate) → 2 * M + 1 < 10 ^ 7 → All (GateLine M) gs
-    → Fresh (λ v w. v ≢ w) defined (map (λ (g : Gate). variable (g .own)) gs) → Operands defined gs → AllFine (gateRule M) defined (map gateRow gs)
+    → Fresh (λ v w. v ≢ w) defined (map (λ (g : Gate). variable (g .own)) gs) → AllFine (gateRule M) defined (map gateRow gs)
 unfolding gateRule
-gates-fine M defined [] s a f o = tt
-gates-fine M defined (g ∷ gs) s a f o = (
+gates-fine M defined [] s a f = tt
+gates-fine M defined (g ∷ gs) s a f = (
   record {
     count = refl;
     below = (omega (arith, a .0 .own .most, s), (omega (arith, a .0 .left, s), (omega (arith, a .0 .right, s), tt)));
-    fine = no-fault-of five (isDefined defined (g .own)) seven large (fresh-own-of defined (g .own) (f .0))
-        (neither-of (unknown defined (g .left)) (unknown defined (g .right)) (known-is defined (g .left) (o .0)) (known-is defined (g .right) (o .1)));
+    fine = no-fault-of five (isDefined defined (g .own)) large (fresh-own-of defined (g .own) (f .0));
   },
-  gates-fine M (defined ++ (variable (g .own) ∷ [])) gs s (a .1) (f .1) (o .2),
+  gates-fine M (defined ++ (variable (g .own) ∷ [])) gs s (a .1) (f .1),
 )
   where
     five : Bool
     five = badOwn M (g .own) || tooLarge M (g .left) || tooLarge M (g .right)
-
-    seven : Bool
-    seven = unknown defined (g .left) || unknown defined (g .right)
 
     large : five ≡ false
     large = neither-of (badOwn M (g .own) || tooLarge M (g .left)) (tooLarge M (g .right))
@@ -173,7 +181,7 @@ inputs-are M defined [] f = record { written = refl; each = tt; fresh = tt }
 inputs-are M defined ([] ∷ rows) f = absurd (omega (arith, f .0 .count))
 inputs-are M defined ((x ∷ y ∷ zs) ∷ rows) f = absurd (omega (arith, f .0 .count))
 inputs-are M defined ((x ∷ []) ∷ rows) f =
-    let (five, six, seven) = no-fault (badOwn M x) (isDefined defined x) false (f .0 .fine) in
+    let (five, six) = no-fault (badOwn M x) (isDefined defined x) (f .0 .fine) in
     one-item-more inputRow (λ y. y) (Defining M) defined rows (map (λ fs. getD fs 0 0) rows) x (good-own M x five) (fresh-own defined x six)
     (inputs-are M (defined ++ (variable x ∷ [])) rows (f .1))
 
@@ -185,7 +193,7 @@ latches-are M defined ([] ∷ rows) f = absurd (omega (arith, f .0 .count))
 latches-are M defined ((x ∷ []) ∷ rows) f = absurd (omega (arith, f .0 .count))
 latches-are M defined ((x ∷ y ∷ z ∷ zs) ∷ rows) f = absurd (omega (arith, f .0 .count))
 latches-are M defined ((x ∷ y ∷ []) ∷ rows) f =
-    let (five, six, seven) = no-fault (badOwn M x || tooLarge M y) (isDefined defined x) false (f .0 .fine) in
+    let (five, six) = no-fault (badOwn M x || tooLarge M y) (isDefined defined x) (f .0 .fine) in
     let (own, next) = neither (badOwn M x) (tooLarge M y) five in
     one-item-more latchRow (λ (l : Latch). l .own) (LatchLine M) defined rows (map latchOf rows) (record { own = x; next = y })
     (record { own = good-own M x own; next = not-too-large M y next }) (fresh-own defined x six) (latches-are M (defined ++ (variable x ∷ [])) rows (f .1))
@@ -197,27 +205,23 @@ output-is M defined [] n f = absurd (omega (arith, n))
 output-is M defined (fs ∷ gs ∷ rows) n f = absurd (omega (arith, n))
 output-is M defined ([] ∷ []) n f = absurd (omega (arith, f .0 .count))
 output-is M defined ((x ∷ y ∷ zs) ∷ []) n f = absurd (omega (arith, f .0 .count))
-output-is M defined ((x ∷ []) ∷ []) n f = (refl, not-too-large M x (no-fault (tooLarge M x) false false (f .0 .fine) .0))
+output-is M defined ((x ∷ []) ∷ []) n f = (refl, not-too-large M x (no-fault (tooLarge M x) false (f .0 .fine) .0))
 
 pub gates-are : (M : ℕ) (defined : List ℕ) (rows : List (List ℕ)) → AllFine (gateRule M) defined rows
-    → LinesAre gateRow (λ g. g .own) (GateLine M) defined rows (map gateOf rows) × Operands defined (map gateOf rows)
+    → LinesAre gateRow (λ g. g .own) (GateLine M) defined rows (map gateOf rows)
 unfolding gateRule gateOf
-gates-are M defined [] f = (record { written = refl; each = tt; fresh = tt }, tt)
+gates-are M defined [] f = record { written = refl; each = tt; fresh = tt }
 gates-are M defined ([] ∷ rows) f = absurd (omega (arith, f .0 .count))
 gates-are M defined ((x ∷ []) ∷ rows) f = absurd (omega (arith, f .0 .count))
 gates-are M defined ((x ∷ y ∷ []) ∷ rows) f = absurd (omega (arith, f .0 .count))
 gates-are M defined ((x ∷ y ∷ z ∷ w ∷ ws) ∷ rows) f = absurd (omega (arith, f .0 .count))
 gates-are M defined ((x ∷ y ∷ z ∷ []) ∷ rows) f =
-    let (five, six, seven) = no-fault (badOwn M x || tooLarge M y || tooLarge M z) (isDefined defined x) (unknown defined y || unknown defined z)
-    (f .0 .fine) in
+    let (five, six) = no-fault (badOwn M x || tooLarge M y || tooLarge M z) (isDefined defined x) (f .0 .fine) in
     let (front, right) = neither (badOwn M x || tooLarge M y) (tooLarge M z) five in
     let (own, left) = neither (badOwn M x) (tooLarge M y) front in
-    let (left-known, right-known) = neither (unknown defined y) (unknown defined z) seven in
-    let (rest, operands) = gates-are M (defined ++ (variable x ∷ [])) rows (f .1) in (
-      one-item-more gateRow (λ (g : Gate). g .own) (GateLine M) defined rows (map gateOf rows) (record { own = x; left = y; right = z })
-          (record { own = good-own M x own; left = not-too-large M y left; right = not-too-large M z right }) (fresh-own defined x six) rest,
-      (known-of defined y left-known, known-of defined z right-known, operands),
-    )
+    one-item-more gateRow (λ (g : Gate). g .own) (GateLine M) defined rows (map gateOf rows) (record { own = x; left = y; right = z })
+    (record { own = good-own M x own; left = not-too-large M y left; right = not-too-large M z right }) (fresh-own defined x six)
+    (gates-are M (defined ++ (variable x ∷ [])) rows (f .1))
 
 -- what lines of items define
 pub news-items : {A : Type 0} (rule : Rule) (row : A → List ℕ) (own : A → ℕ) → rule .defines ≡ true → ((x : A) → getD (row x) 0 0 ≡ own x)

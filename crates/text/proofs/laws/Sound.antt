@@ -14,19 +14,22 @@ use Rattle.circuit.specs.Outcome.{taken}
 use Rattle.text.specs.Headed.{rowOf, Headed}
 use Rattle.text.specs.Header.{Header, word}
 use Rattle.text.specs.InList.{All, Pairs}
+use Rattle.text.specs.Kind.{aLatch, theOutput, aGate, usedBy, latchOf, gateOf}
 use Rattle.text.specs.Line.{lines}
 use Rattle.text.specs.Numbers.{fileTooLong, headerLimit}
-use Rattle.text.specs.Read.{latchOf, gateOf, fileRead}
+use Rattle.text.specs.Read.{fileRead}
 use Rattle.text.specs.Rules.{inputRule, latchRule, outputRule, gateRule}
 use Rattle.text.specs.Section.{onward}
+use Rattle.text.specs.Stages.{lateOf}
 use Rattle.text.specs.TextFile.{TextFile}
-use Rattle.text.specs.WellFormed.{WellFormed, Defining, LatchLine, GateLine, Known, Operands, Apart, SymbolLine, ofInputsAndLatches, definedIn}
+use Rattle.text.specs.WellFormed.{WellFormed, Defining, LatchLine, GateLine, Known, ReachesItself, Apart, SymbolLine, ofInputsAndLatches, definedIn}
 use Rattle.text.specs.Within.{Within}
 use Rattle.text.specs.Written.{numberLine, symbolLine, commentText, textOf}
+use Rattle.text.proofs.laws.Circle.{circled-none}
 use Rattle.text.proofs.laws.Header.{headerFor, headed-lines, header-taken, within-is}
 use Rattle.text.proofs.laws.Line.{flat-lines}
 use Rattle.text.proofs.laws.Lines.{behindText, text-by-rows}
-use Rattle.text.proofs.laws.Lists.{Fresh, all-left, all-right, all-map, map-all, fresh-pairs}
+use Rattle.text.proofs.laws.Lists.{Fresh, all-left, all-right, all-weaker, all-map, map-all, fresh-pairs}
 use Rattle.text.proofs.laws.Outcome.{bind-taken, then-taken, refuse-none}
 use Rattle.text.proofs.laws.Rules.{inputRow, latchRow, gateRow, LinesAre, inputs-are, latches-are, output-is, gates-are, news-items}
 use Rattle.text.proofs.laws.Section.{news, AllFine, Whole, section-whole}
@@ -104,7 +107,6 @@ module _ (h : Header) (rest : List (List ℕ)) (f : TextFile) (p : Parts h rest 
   output-line = output-is (h .largest) (p .latches .defined) (p .output .rows) (output-whole .count) (output-whole .fine)
 
   gate-lines : LinesAre gateRow (λ g. g .own) (GateLine (h .largest)) (ofInputsAndLatches F) (p .gates .rows) (F .gates)
-      × Operands (ofInputsAndLatches F) (F .gates)
   gate-lines = gates-are (h .largest) (ofInputsAndLatches F) (p .gates .rows)
       (subst (λ (d : List ℕ). AllFine (gateRule (h .largest)) d (p .gates .rows)) output-known (gates-whole .fine))
 
@@ -112,7 +114,7 @@ module _ (h : Header) (rest : List (List ℕ)) (f : TextFile) (p : Parts h rest 
   unfolding gateRule
   gates-known =
       gates-whole .known
-      ∙ ap₂ {C = List ℕ} (λ a b. a ++ b) output-known (ap (news (gateRule (h .largest))) (gate-lines .0 .written)
+      ∙ ap₂ {C = List ℕ} (λ a b. a ++ b) output-known (ap (news (gateRule (h .largest))) (gate-lines .written)
       ∙ news-items (gateRule (h .largest)) gateRow (λ g. g .own) refl (λ x. refl) (F .gates))
 
   header-same : h .outputs ≡ 1 → h ≡ headerFor F
@@ -148,7 +150,7 @@ module _ (h : Header) (rest : List (List ℕ)) (f : TextFile) (p : Parts h rest 
       (section-text (p .output .rows) ((F .output ∷ []) ∷ []) (p .latches .rest) (p .output .rest) (output-whole .lines) (output-line .0)
       ∙ append-assoc (numberLine (F .output ∷ [])) [] (flatMap (λ l. l) (p .output .rest)))
       ∙ ap {B = List ℕ} (λ t. flatMap numberLine is ++ (flatMap numberLine ls ++ (numberLine (F .output ∷ []) ++ t)))
-      (section-text (p .gates .rows) gs (p .output .rest) (p .gates .rest) (gates-whole .lines) (gate-lines .0 .written)
+      (section-text (p .gates .rows) gs (p .output .rest) (p .gates .rest) (gates-whole .lines) (gate-lines .written)
       ∙ ap {B = List ℕ} (λ t. flatMap numberLine gs ++ t) behind-text)
     where
       is : List (List ℕ)
@@ -160,23 +162,48 @@ module _ (h : Header) (rest : List (List ℕ)) (f : TextFile) (p : Parts h rest 
       gs : List (List ℕ)
       gs = map gateRow (F .gates)
 
-  late-known : All (Known (definedIn F)) (map (λ fs. getD fs 1 0) (p .latches .rows) ++ map (λ fs. getD fs 0 0) (p .output .rows))
-  late-known = subst (λ (d : List ℕ). All (Known d) (map (λ fs. getD fs 1 0) (p .latches .rows) ++ map (λ fs. getD fs 0 0) (p .output .rows)))
-      gates-known (known-used (p .gates .defined) (2 + h .inputs) (map (λ fs. getD fs 1 0) (p .latches .rows)
-      ++ map (λ fs. getD fs 0 0) (p .output .rows)) tt (p .late-taken))
+  -- what latches, output and gates use
+  abbrev usedLatches : List (List ℕ)
+  usedLatches = map (usedBy aLatch) (p .latches .rows)
+
+  abbrev usedOutput : List (List ℕ)
+  usedOutput = map (usedBy theOutput) (p .output .rows)
+
+  abbrev usedGates : List (List ℕ)
+  usedGates = map (usedBy aGate) (p .gates .rows)
+
+  abbrev AllKnown : List ℕ → Type 0
+  AllKnown ls = All (Known (definedIn F)) ls
+
+  late-known : All AllKnown (lateOf (p .latches) (p .output) (p .gates))
+  late-known = subst (λ (d : List ℕ). All (All (Known d)) (lateOf (p .latches) (p .output) (p .gates))) gates-known
+      (known-used (p .gates .defined) (2 + h .inputs) (lateOf (p .latches) (p .output) (p .gates)) tt (p .late-taken))
 
   nexts-known : All (λ (l : Latch). Known (definedIn F) (l .next)) (F .latches)
   unfolding latchOf
   nexts-known =
       all-map (λ (l : Latch). Known (definedIn F) (l .next)) latchOf (p .latches .rows)
-      (map-all (Known (definedIn F)) (λ (fs : List ℕ). getD fs 1 0) (p .latches .rows)
-      (all-left (Known (definedIn F)) (map (λ fs. getD fs 1 0) (p .latches .rows)) (map (λ fs. getD fs 0 0) (p .output .rows)) late-known))
+      (all-weaker (λ (fs : List ℕ). AllKnown (usedBy aLatch fs)) (λ (fs : List ℕ). Known (definedIn F) (getD fs 1 0)) (λ fs a. a .0) (p .latches .rows)
+      (map-all AllKnown (usedBy aLatch) (p .latches .rows) (all-left AllKnown usedLatches (usedOutput ++ usedGates) late-known)))
+
+  behind-latches : All AllKnown (usedOutput ++ usedGates)
+  behind-latches = all-right AllKnown usedLatches (usedOutput ++ usedGates) late-known
 
   output-is-known : Known (definedIn F) (F .output)
   output-is-known =
-      let last : All (Known (definedIn F)) (map (λ fs. getD fs 0 0) (p .output .rows)) =
-      all-right (Known (definedIn F)) (map (λ fs. getD fs 1 0) (p .latches .rows)) (map (λ fs. getD fs 0 0) (p .output .rows)) late-known in
-      subst (λ (rows : List (List ℕ)). All (Known (definedIn F)) (map (λ fs. getD fs 0 0) rows)) (output-line .0) last .0
+      subst (λ (rows : List (List ℕ)). All AllKnown (map (usedBy theOutput) rows)) (output-line .0)
+      (all-left AllKnown usedOutput usedGates behind-latches) .0 .0
+
+  operands-known : All (λ (g : Gate). Known (definedIn F) (g .left) × Known (definedIn F) (g .right)) (F .gates)
+  unfolding gateOf
+  operands-known =
+      all-map (λ (g : Gate). Known (definedIn F) (g .left) × Known (definedIn F) (g .right)) gateOf (p .gates .rows)
+      (all-weaker (λ (fs : List ℕ). AllKnown (usedBy aGate fs)) (λ (fs : List ℕ). Known (definedIn F) (getD fs 1 0) × Known (definedIn F) (getD fs 2 0))
+      (λ fs a. (a .0, a .1 .0)) (p .gates .rows)
+      (map-all AllKnown (usedBy aGate) (p .gates .rows) (all-right AllKnown usedOutput usedGates behind-latches)))
+
+  no-circle : (i : ℕ) → ReachesItself (F .gates) i → ⊥
+  no-circle = circled-none (F .gates) (3 + h .inputs + h .latches) tt (p .circle-taken)
 
   once : Pairs (λ v u. v ≢ u) (definedIn F)
   once =
@@ -184,7 +211,7 @@ module _ (h : Header) (rest : List (List ℕ)) (f : TextFile) (p : Parts h rest 
       (fresh-pairs (λ v u. v ≢ u) (map variable (F .inputs)) (map (λ (l : Latch). variable (l .own)) (F .latches))
       (fresh-pairs (λ v u. v ≢ u) [] (map variable (F .inputs)) tt (input-lines .fresh))
       (latch-lines .fresh))
-      (gate-lines .0 .fresh)
+      (gate-lines .fresh)
 
 module _ (limits : Limits) (bytes : List ℕ) (f : TextFile) (one : limits .outputs ≡ 1) (small : 2 * limits .variable + 1 < 10 ^ 7) where
   -- each part of reading a file was taken, so the file is its text
@@ -228,9 +255,10 @@ module _ (limits : Limits) (bytes : List ℕ) (f : TextFile) (one : limits .outp
             inputs = input-lines h rest f p .each;
             latches = latch-lines h rest f p .each;
             output = output-line h rest f p .1;
-            gates = gate-lines h rest f p .0 .each;
+            gates = gate-lines h rest f p .each;
             once = once h rest f p;
-            operands = gate-lines h rest f p .1;
+            operands = operands-known h rest f p;
+            noCircle = no-circle h rest f p;
             nexts = nexts-known h rest f p;
             error = output-is-known h rest f p;
             symbols = symbols-right h rest f p h-one .0;

@@ -1,14 +1,15 @@
--- Reading the lines behind the header, stage by stage (01, "The numbers", the order of the numbers): each section, the late 7, the symbols.
--- Assumes nothing.
+-- Reading the lines behind the header, stage by stage (01, "The numbers", the order of the numbers): each section, the late 7, 16, the
+-- symbols. Assumes nothing.
 use Prim.Native.Nat.{ℕ}
 use mathlib.Core.List.{List, [], map}
 use mathlib.Core.Path.{_≡_}
 use lib.ListN.{getD}
 use Rattle.circuit.specs.Outcome.{Outcome, taken, _>>=_, _>>_}
 use Rattle.text.specs.Header.{Header}
-use Rattle.text.specs.Read.{latchOf, gateOf, linesRead}
+use Rattle.text.specs.Kind.{latchOf, gateOf}
+use Rattle.text.specs.Read.{linesRead}
 use Rattle.text.specs.Section.{Body}
-use Rattle.text.specs.Stages.{inputSection, latchSection, outputSection, gateSection, lateStage, symbolStage}
+use Rattle.text.specs.Stages.{inputSection, latchSection, outputSection, gateSection, lateStage, circleStage, symbolStage}
 use Rattle.text.specs.Symbol.{Symbols}
 use Rattle.text.specs.TextFile.{TextFile}
 use Rattle.text.proofs.laws.Outcome.{bind-taken, then-taken, taken-is}
@@ -27,8 +28,11 @@ fileOf h inputs latches output gates behind =
     }
 
 -- what is still to be read behind each stage
+abbrev pub behindCircle : Header → (inputs latches output gates : Body) → Outcome TextFile
+behindCircle h inputs latches output gates = symbolStage h gates >>= λ behind. taken (fileOf h inputs latches output gates behind)
+
 abbrev pub behindLate : Header → (inputs latches output gates : Body) → Outcome TextFile
-behindLate h inputs latches output gates = symbolStage h gates >>= λ behind. taken (fileOf h inputs latches output gates behind)
+behindLate h inputs latches output gates = circleStage h gates >> behindCircle h inputs latches output gates
 
 abbrev pub behindGates : Header → (inputs latches output gates : Body) → Outcome TextFile
 behindGates h inputs latches output gates = lateStage h latches output gates >> behindLate h inputs latches output gates
@@ -54,6 +58,7 @@ pub record Parts (h : Header) (rest : List (List ℕ)) (f : TextFile) : Type 0 w
   pub output-taken : outputSection h latches ≡ taken output
   pub gates-taken : gateSection h output ≡ taken gates
   pub late-taken : lateStage h latches output gates ≡ taken tt
+  pub circle-taken : circleStage h gates ≡ taken tt
   pub symbols-taken : symbolStage h gates ≡ taken behind
   pub whole : fileOf h inputs latches output gates behind ≡ f
 
@@ -65,7 +70,8 @@ parts h rest f e =
     let (output, c, e3) = bind-taken (outputSection h latches) (behindOutput h inputs latches) f e2 in
     let (gates, d, e4) = bind-taken (gateSection h output) (behindGates h inputs latches output) f e3 in
     let (u, g, e5) = then-taken (lateStage h latches output gates) (behindLate h inputs latches output gates) f e4 in
-    let (behind, s, e6) = bind-taken (symbolStage h gates) (λ b. taken (fileOf h inputs latches output gates b)) f e5 in
+    let (v, o, e6) = then-taken (circleStage h gates) (behindCircle h inputs latches output gates) f e5 in
+    let (behind, s, e7) = bind-taken (symbolStage h gates) (λ b. taken (fileOf h inputs latches output gates b)) f e6 in
     record {
       inputs = inputs;
       latches = latches;
@@ -78,6 +84,7 @@ parts h rest f e =
           c;
       gates-taken = d;
       late-taken = g;
+      circle-taken = o;
       symbols-taken = s;
-      whole = taken-is (fileOf h inputs latches output gates behind) f e6;
+      whole = taken-is (fileOf h inputs latches output gates behind) f e7;
     }

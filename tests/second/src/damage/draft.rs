@@ -78,6 +78,7 @@ pub fn draft(net: &Net, random: &mut Random) -> Draft {
         body.push(join(&[literal(net.latch(k)), literal(net.next[k])]));
     }
     body.push(join(&[literal(net.output)]));
+    let mut gates = Vec::new();
     for (k, &[left, right]) in net.gates.iter().enumerate() {
         let (left, right) = if random.chance(50) {
             (left, right)
@@ -85,8 +86,10 @@ pub fn draft(net: &Net, random: &mut Random) -> Draft {
             (right, left)
         };
         let own = 2 * (i + l + k + 1);
-        body.push(join(&[literal(own), literal(left), literal(right)]));
+        gates.push(join(&[literal(own), literal(left), literal(right)]));
     }
+    as_drawn(&mut gates, random);
+    body.extend(gates);
 
     let comment = random.chance(30).then(|| names::comment(random));
     let mut draft = Draft {
@@ -98,6 +101,15 @@ pub fn draft(net: &Net, random: &mut Random) -> Draft {
     };
     draft.set_header(&[m, i, l, 1, a]);
     draft
+}
+
+/// Document 02, T-01: gates stand in any order; half of the time as made.
+fn as_drawn(gates: &mut [Vec<u8>], random: &mut Random) {
+    match random.below(4) {
+        0 => gates.reverse(),
+        1 => random.shuffle(gates),
+        _ => {}
+    }
 }
 
 /// M, and the number of each variable of the net; variable 0 stays.

@@ -1,4 +1,5 @@
-//! Document 01, "The numbers", 1 to 9: files with one or two faults.
+//! Document 01, "The numbers", 1 to 9, and 16 of document 02, T-01: files with
+//! one or two faults.
 
 use super::bad_symbols;
 use super::draft::Draft;
@@ -9,10 +10,10 @@ use crate::circuit::Circuit;
 
 /// A file with the fault of this number, sometimes with one more.
 pub fn file(random: &mut Random, number: u8) -> Vec<u8> {
-    let mut draft = if number == 9 {
-        too_many(random)
-    } else {
-        any(random)
+    let mut draft = match number {
+        9 => too_many(random),
+        16 => with_gates(random),
+        _ => any(random),
     };
     let second = random.chance(20).then(|| random.between(2, 8) as u8);
     for fault in second.into_iter().chain([number]) {
@@ -31,6 +32,7 @@ fn add(draft: &mut Draft, number: u8, random: &mut Random) {
         6 => twice(draft, random),
         7 => undefined(draft, random),
         8 => bad_symbols::spoil(draft, random),
+        16 => circle(draft, random),
         _ => {}
     }
 }
@@ -174,7 +176,7 @@ fn twice(draft: &mut Draft, random: &mut Random) {
 }
 
 /// Number 7: an operand, a next-state literal or the output that nothing
-/// defines in time.
+/// defines.
 fn undefined(draft: &mut Draft, random: &mut Random) {
     let Some(mut n) = draft.header_numbers() else {
         return;
@@ -193,17 +195,52 @@ fn undefined(draft: &mut Draft, random: &mut Random) {
         _ if line < output => 1,
         _ => random.between(1, 2),
     };
-    let own_or_later = random.between(line, draft.body.len() - 1);
-    let later = draft.literals(own_or_later).filter(|_| line > output);
-    literals[field] = match later {
-        Some(gate) if random.chance(50) => gate[0] ^ random.below(2),
-        _ => {
-            n[0] = (n[0] + 1).min(Circuit::LARGEST_VARIABLE);
-            2 * n[0] + random.below(2)
-        }
+    let Some(used) = literals.get_mut(field) else {
+        return;
     };
+    n[0] = (n[0] + 1).min(Circuit::LARGEST_VARIABLE);
+    *used = 2 * n[0] + random.below(2);
     draft.set_header(&n);
     draft.set_literals(line, &literals);
+}
+
+/// Number 16: from a gate some steps down to operands that are gates, and
+/// back to it; with no step the gate is its own operand.
+fn circle(draft: &mut Draft, random: &mut Random) {
+    let Some(n) = draft.header_numbers() else {
+        return;
+    };
+    let first_gate = n[1] + n[2] + 1;
+    let gates: Vec<(usize, Vec<usize>)> = (first_gate..draft.body.len())
+        .filter_map(|line| Some((line, draft.literals(line)?)))
+        .filter(|(_, literals)| literals.len() == 3)
+        .collect();
+    if gates.is_empty() {
+        return;
+    }
+    let top = random.pick(&gates).clone();
+    let mut low = top.clone();
+    for _ in 0..random.below(6) {
+        let side = random.between(1, 2);
+        let defines = |gate: &&(usize, Vec<usize>)| gate.1[0] / 2 == low.1[side] / 2;
+        match gates.iter().find(defines) {
+            Some(gate) => low = gate.clone(),
+            None => break,
+        }
+    }
+    let side = random.between(1, 2);
+    low.1[side] = top.1[0] ^ random.below(2);
+    draft.set_literals(low.0, &low.1);
+}
+
+/// A random well-formed file with a gate.
+fn with_gates(random: &mut Random) -> Draft {
+    loop {
+        let draft = any(random);
+        if draft.header_numbers().is_some_and(|n| n[4] > 0) {
+            return draft;
+        }
+    }
 }
 
 /// Number 9: too many inputs of one sort, all else well.

@@ -1,7 +1,8 @@
 //! Document 01, "The numbers", 4 to 7: the lines before the symbols, "lines
-//! in file order, each 4, 5, 6 and, for gate operands, 7; then 7 for latches
-//! and the output in file order".
+//! in file order, each 4, 5, 6"; then, by document 02, T-01, 7 for latches,
+//! the output and gates, in file order, and 16.
 
+use super::circles;
 use super::lines::{numbers, Lines};
 use crate::circuit::{Gate, Header, Latch};
 use crate::refusal::{refusal, Refusal};
@@ -11,6 +12,7 @@ pub struct Body {
     pub latches: Vec<Latch>,
     pub output: usize,
     pub gates: Vec<Gate>,
+    pub order: Vec<usize>,
 }
 
 pub fn read(header: &Header, lines: &mut Lines) -> Result<Body, Refusal> {
@@ -39,13 +41,11 @@ pub fn read(header: &Header, lines: &mut Lines) -> Result<Body, Refusal> {
     let output_line = lines.number();
     let output = plain_line(lines, 1, &known)?[0];
 
+    let first_gate_line = lines.number();
     let mut gates = Vec::new();
     for _ in 0..header.a {
         let place = lines.number();
         let literals = defining_line(lines, 3, &known)?;
-        known.not_yet(literals[0], place)?;
-        known.is_there(literals[1], place)?;
-        known.is_there(literals[2], place)?;
         known.define(literals[0], place)?;
         gates.push(Gate {
             literal: literals[0],
@@ -58,12 +58,18 @@ pub fn read(header: &Header, lines: &mut Lines) -> Result<Body, Refusal> {
         known.is_there(latch.next, first_latch_line + k)?;
     }
     known.is_there(output, output_line)?;
+    for (k, gate) in gates.iter().enumerate() {
+        known.is_there(gate.left, first_gate_line + k)?;
+        known.is_there(gate.right, first_gate_line + k)?;
+    }
+    let order = circles::read(&gates, first_gate_line)?;
 
     Ok(Body {
         inputs,
         latches,
         output,
         gates,
+        order,
     })
 }
 
@@ -106,15 +112,10 @@ impl Known {
         2 * self.defined.len() - 1
     }
 
-    fn not_yet(&self, literal: usize, place: usize) -> Result<(), Refusal> {
+    fn define(&mut self, literal: usize, place: usize) -> Result<(), Refusal> {
         if self.defined[literal / 2] {
             return Err(refusal(6, place));
         }
-        Ok(())
-    }
-
-    fn define(&mut self, literal: usize, place: usize) -> Result<(), Refusal> {
-        self.not_yet(literal, place)?;
         self.defined[literal / 2] = true;
         Ok(())
     }

@@ -1,5 +1,5 @@
-//! The readings B-16 to B-22 of document 01, "The numbers", 4 to 7: the order
-//! of the numbers in the body.
+//! The readings B-16 to B-22 of document 01, "The numbers", 4 to 7, and T01-1 to
+//! T01-6 of document 02, T-01: the order of the numbers in the body.
 
 use crate::common::{assert_refused, assert_taken, Q};
 
@@ -55,21 +55,21 @@ fn b19_place_of_the_second_definition() {
 
 #[test]
 fn b20_gate_operands() {
-    // The gate itself, a gate of a later line, an undefined variable.
-    assert_refused("aag 2 0 0 1 2\n0\n2 2 0\n4 0 0\n", 7, 3);
-    assert_refused("aag 2 0 0 1 2\n0\n2 0 3\n4 0 0\n", 7, 3);
-    assert_refused("aag 2 0 0 1 2\n0\n2 4 0\n4 0 0\n", 7, 3);
+    // An undefined variable; a gate of a later line is fine.
     assert_refused("aag 3 0 0 1 2\n0\n2 0 7\n4 0 0\n", 7, 3);
-    // At once, before later lines are looked at.
-    assert_refused("aag 2 0 0 1 2\n0\n2 4 0\nx\n", 7, 3);
+    assert_taken("aag 2 0 0 1 2\n0\n2 4 0\n4 0 0\n");
+    // Behind all lines.
+    assert_refused("aag 3 0 0 1 2\n0\n2 6 0\nx\n", 4, 4);
     // Earlier lines count, whatever the literals.
     assert_taken("aag 2 0 0 1 2\n0\n4 1 0\n2 4 5\n");
 }
 
 #[test]
 fn b21_late_numbers_7() {
-    // The latch is the worse line, the gate line comes first.
-    assert_refused("aag 9 0 1 1 1\n2 8\n0\n4 6 0\n", 7, 4);
+    // The latch's line comes first, then the output's, then the gate's.
+    assert_refused("aag 9 0 1 1 1\n2 8\n0\n4 6 0\n", 7, 2);
+    assert_refused("aag 9 0 1 1 1\n2 0\n8\n4 6 0\n", 7, 3);
+    assert_refused("aag 9 0 1 1 1\n2 0\n0\n4 6 0\n", 7, 4);
     assert_refused("aag 9 0 1 1 1\n2 8\n0\n2 0 0\n", 6, 4);
     assert_refused("aag 9 0 1 1 1\n2 8\n0\nx\n", 4, 4);
     // Among themselves: latches in order, then the output.
@@ -89,4 +89,40 @@ fn b22_numbers_7_before_numbers_8() {
         7,
         5,
     );
+}
+
+#[test]
+fn t01_1_a_gate_that_uses_itself() {
+    assert_refused("aag 2 0 0 1 2\n0\n2 2 0\n4 0 0\n", 16, 3);
+    assert_refused("aag 2 0 0 1 2\n0\n2 0 3\n4 0 0\n", 16, 3);
+}
+
+#[test]
+fn t01_2_the_lowest_line_on_a_circle() {
+    // The first gate only leads into the circle of the others.
+    assert_refused("aag 3 0 0 1 3\n0\n2 4 4\n4 6 1\n6 1 5\n", 16, 4);
+    // Two circles.
+    assert_refused("aag 4 0 0 1 4\n0\n2 8 1\n4 4 4\n6 6 6\n8 1 1\n", 16, 4);
+}
+
+#[test]
+fn t01_3_order_of_the_numbers() {
+    assert_refused("aag 9 0 0 1 2\n0\n2 2 2\n4 1 8\n", 7, 4);
+    assert_refused("aag 9 0 0 1 2\n0\n2 2 2\n4 1 1\nx\n", 16, 3);
+    assert_refused("aag 9 0 0 1 2\n0\n2 2 2\n2 1 1\n", 6, 4);
+}
+
+#[test]
+fn t01_4_gates_nobody_uses() {
+    assert_refused("aag 3 1 0 1 2\n2\n2\n4 6 2\n6 4 2\n", 16, 4);
+}
+
+#[test]
+fn t01_5_a_way_through_a_latch() {
+    assert_taken("aag 2 0 1 1 1\n2 4\n2\n4 2 2\n");
+}
+
+#[test]
+fn t01_6_defined_later() {
+    assert_taken("aag 4 1 0 1 3\n2\n4\n4 6 2\n8 2 2\n6 8 3\n");
 }

@@ -21,7 +21,7 @@ fn every_number_of_a_file_turns_up() {
     for index in 0..600 {
         count.file(&file(1, index));
     }
-    for number in 1..=9 {
+    for number in (1..=9).chain([16]) {
         assert!(count.of_number(number) >= 10, "{number}");
     }
 }

@@ -1,19 +1,22 @@
 -- `reader::read::read` meets its contract: length, header, limits, and then the lines, in the order of the numbers. Assumes nothing.
 use borrow.Author.Needs.{needs}
-use lib.ListN.{take}
+use Prim.Native.Nat.{ℕ, _-_, _≤_}
+use lib.ListN.{length, take, drop, length-take, length-drop}
 use lib.Seq.{length-take-le}
-use mathlib.Core.Path.{_≡_, refl, sym, _∙_, subst}
+use mathlib.Core.List.{List}
+use mathlib.Core.Path.{_≡_, sym, ap, _∙_, subst}
 use native.Mathlib.Omega.{arith}
 use Rattle.circuit.specs.Answer.{ReadAs}
 use Rattle.circuit.specs.Circuit.{Circuit}
 use Rattle.circuit.specs.Limits.{base}
 use Rattle.circuit.specs.Outcome.{Outcome}
 use Rattle.lines.specs.contracts.Headed.{said, HeadedAs}
-use Rattle.reader.proofs.laws.FileLoop.{within-says, circuit-too-long, circuit-headless, circuit-over, circuit-lines, first-part}
+use Rattle.reader.proofs.laws.FileLoop.{within-says, circuit-too-long, circuit-headless, circuit-over, circuit-lines, first-part, rest-part}
 use Rattle.reader.proofs.laws.Place.{line-ends-within}
 use Rattle.reader.proofs.laws.ReadLoop.{read-refused}
-use Rattle.text.specs.Line.{firstLine}
-use Rattle.text.specs.Read.{circuitRead}
+use Rattle.reader.specs.contracts.LinesAs.{circuitOfLines}
+use Rattle.text.specs.Line.{lines, firstLine}
+use Rattle.text.specs.Read.{linesRead, circuitRead}
 use Rattle.reader.proofs.read.read.Statement.{statement}
 use Rattle.reader.proofs.read.read.Tie as tie
 
@@ -39,28 +42,32 @@ returns-2 c =
     (rw line at (subst (HeadedAs (take (e .result) file)) (c .before .enum-told .given .1) (c .before .before .before .header-line .ensures))))
     (c .refused2 .ensures)
 
+-- where the header ends
+ends : (c : tie.After-line-end) → c .line-end .result ≤ length (c .before .before .before .args .file .now)
+ends c = line-ends-within (c .before .before .before .args .file .now) 0 (c .line-end .result) (c .line-end .ensures) (omega arith)
+
 read-lines-requires : tie.Need-read-lines-requires
 read-lines-requires c κs =
     let c8 = c .before .before .before .before .before .before .before .before in
-    let file = c8 .before .before .args .file .now in
-    let e = c .before .before .before .before .before .before .before .line-end in
+    let file = c8 .before .before .before .args .file .now in
+    let e = c8 .line-end in
     record {
-      within = line-ends-within file 0 (e .result) (e .ensures) (omega arith);
-      second = refl;
-      file = c8 .if1 .left;
-      few = within-says (said (c .before .before .before .h .given .0 .0)) (sym (c .before .within .ensures) ∙ c .if2 .taken);
+      file = omega (arith, c8 .before .if1 .left, length-take (length file - e .result) (drop (e .result) file), length-drop (e .result) file);
+      few = within-says (said (c .before .before .before .before .h .given .0 .0)) (sym (c .before .before .within .ensures) ∙ c .before .if2 .taken);
     }
 
 returns-3 : tie.Need-returns-3
 returns-3 c =
     let c8 = c .before .before .before .before .before .before .before .before in
-    let file = c8 .before .before .before .args .file .now in
-    let e = c8 .line-end in
+    let file = c8 .before .before .before .before .args .file .now in
+    let e = c8 .before .line-end in
     let line : take (e .result) file ≡ firstLine file = first-part file (e .result) (e .ensures) in
-    let g = c .before .before .before .before .h .given in
-    let is = subst (HeadedAs (take (e .result) file)) (g .1) (c .before .before .before .before .before .before .header-line .ensures) in
+    let g = c .before .before .before .before .before .h .given in
+    let is = subst (HeadedAs (take (e .result) file)) (g .1) (c .before .before .before .before .before .before .before .header-line .ensures) in
     subst (λ (o : Outcome Circuit). ReadAs o (c .read-lines .result))
-    (sym (circuit-lines file (c8 .before .if1 .left) (said (g .0 .0)) (rw line at is) (sym (c .before .before .within .ensures) ∙ c .before .if2 .taken)
+    (ap (λ (l : List ℕ). circuitOfLines (linesRead (said (g .0 .0)) (lines l))) (rest-part file (e .result))
+    ∙ sym (circuit-lines file (c8 .before .before .if1 .left) (said (g .0 .0)) (rw line at is)
+    (sym (c .before .before .before .within .ensures) ∙ c .before .before .if2 .taken)
     (e .result) (e .ensures)))
     (c .read-lines .ensures)
 
@@ -89,6 +96,9 @@ read-spec =
     (λ c κs. search needs)
     returns-2
     (λ c κs. search needs)
+    (λ c. search (needs, ends (c .before .before .before .before .before .before .before)))
+    (λ c. search (needs, ends (c .before .before .before .before .before .before .before)))
+    (λ c. search needs)
     read-lines-requires
     returns-3
     (λ c κs. search needs)

@@ -27,6 +27,7 @@ returns c = λ x.
             gate = (c .no-gates .ensures ∙ sym (padded-none (base .variable))) x;
             left = (c .no-gates .ensures ∙ sym (padded-none (base .variable))) x;
             right = (c .no-gates .ensures ∙ sym (padded-none (base .variable))) x;
+            lines = (c .no-gates .ensures ∙ sym (padded-none (base .variable))) x;
           };
     }
 

@@ -1,0 +1,16 @@
+pub mod Alarms
+pub mod Marks
+pub mod Members
+pub mod Visit
+pub mod Fuel
+pub mod Meets
+pub mod Grown
+pub mod Placed
+pub mod Place
+pub mod NoCircle
+pub mod Reached
+pub mod Tested
+pub mod Going
+pub mod Met
+pub mod Answer
+pub mod Gates

@@ -1,0 +1,3 @@
+pub mod Unseen
+pub mod Visited
+pub mod Lent
