@@ -8,7 +8,7 @@
 #ifndef KRASTOPI_H
 #define KRASTOPI_H
 
-#define KRASTOPI_VERSION 3 /* of this header and library: a greater one when a struct, a function or a number changes */
+#define KRASTOPI_VERSION 4 /* of this header and library: a greater one when a struct, a function or a number changes */
 
 #define KRASTOPI_FILE 16384        /* bytes of the longest file that is taken */
 #define KRASTOPI_PRINT 15157       /* bytes of the longest print */

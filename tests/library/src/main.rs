@@ -32,8 +32,11 @@ const CASES: [(Function, usize); 11] = [
     (Function::Attack, 50_000),
 ];
 
-/// How often each number from 1 to 15 turns up at least.
+/// How often each number from 1 to 16 turns up at least.
 const LEAST: usize = 50;
+
+/// How many answers there are: 0, and the numbers of refusals.
+const NUMBERS: usize = 17;
 const BATCH: usize = 500;
 
 type Batch = Vec<(Function, Case, Answer)>;
@@ -85,7 +88,7 @@ fn make(seed: u64, mut input: ChildStdin, wanted: &SyncSender<Batch>) {
 /// Compares what the driver answers with what is wanted, and counts.
 fn compare(mut output: impl Read, wanted: &Receiver<Batch>) -> bool {
     let mut agree = BTreeMap::new();
-    let mut numbers = [0; 16];
+    let mut numbers = [0; NUMBERS];
     let mut unguarded = 0;
     'all: for batch in wanted {
         for (function, case, wanted) in batch {
@@ -126,7 +129,11 @@ fn take(output: &mut impl Read, room: usize) -> Option<(Answer, bool)> {
     Some((answer, guarded[0] == 1))
 }
 
-fn summary(agree: &BTreeMap<Function, usize>, numbers: &[usize; 16], unguarded: usize) -> bool {
+fn summary(
+    agree: &BTreeMap<Function, usize>,
+    numbers: &[usize; NUMBERS],
+    unguarded: usize,
+) -> bool {
     let (mut passed, mut failed) = (0, 0);
     let mut test = |holds: bool| if holds { passed += 1 } else { failed += 1 };
     for (function, count) in CASES {
