@@ -1,4 +1,6 @@
 // Reads the files that its arguments name, and prints a line for each (01, "The numbers"): `NAME: taken` or `NAME: refused N PLACE`.
+#![tactic(auto)]
+
 use circuit::Read;
 use libc::STDOUT_FILENO;
 

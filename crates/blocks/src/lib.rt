@@ -1,4 +1,6 @@
 // Blocks of moves: a net evaluated for 64 moves at once, lane j of block b the move 64 × b + j (01, "The game").
+#![tactic(auto)]
+
 mod gates;
 mod moves;
 mod words;

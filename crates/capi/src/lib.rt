@@ -1,5 +1,7 @@
 // The library for other languages (01, "What the library takes and gives"): each function is the one that it calls, over plain numbers and
 // lent bytes. In an answer number 0 says that nothing was refused; after a refusal all but number and place is 0.
+#![tactic(auto)]
+
 mod plain;
 
 ghost use Rattle.std.specs.Prelude.{◌≡◌, length, drop};

@@ -1,5 +1,7 @@
 // certificates CIRCUIT .. prints two lines for each circuit file (01, "The certificate"): `NAME: VERDICT BYTES passed` of a certificate that
 // is written and then passes, else `refused`, number and place at the end; then the same of packed replies (02, T-07).
+#![tactic(auto)]
+
 use checker::Checked;
 use libc::STDOUT_FILENO;
 use writer::Certified;

@@ -1,6 +1,8 @@
 // certify CIRCUIT CERTIFICATE [packed] writes the certificate of a circuit file (01, "The certificate"), with the word `packed` that of packed
 // replies (02, T-07), and prints the verdict and how many bytes it has. Of a file that is refused it prints `refused`, number and place, and
 // the certificate's file stays as it was.
+#![tactic(auto)]
+
 use bits::bytes::same_bytes;
 use desk::save::save_argument;
 use writer::Certified;

@@ -1,4 +1,6 @@
 // The check of a certificate (01, "The certificate" and "The numbers", 11 to 15). It never sees the solver.
+#![tactic(auto)]
+
 mod attacks;
 mod counts;
 mod replies;

@@ -1,4 +1,6 @@
 // The circuit kind: a circuit as a value, its limits, and the number and place of a refusal.
+#![tactic(auto)]
+
 pub mod counts;
 pub mod limits;
 pub mod stored;

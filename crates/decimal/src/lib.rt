@@ -1,4 +1,6 @@
 // Numbers in decimal (01, "The file" and "Listings to compare"), written at a place of a lent buffer.
+#![tactic(auto)]
+
 ghost use Rattle.std.specs.Prelude.{◌≡◌, ◌+◌, ◌%◌, ◌≤◌, length};
 ghost use Rattle.std.proofs.lemmas.List.Edits.{sets};
 ghost use Rattle.bits.specs.Wrote.{put_at};

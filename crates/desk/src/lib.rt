@@ -1,5 +1,7 @@
 // What the programs share: the arguments, a file read whole, a file saved, a refusal printed. Trouble is told at once, as one line on
 // standard error.
+#![tactic(auto)]
+
 mod place;
 pub mod save;
 

@@ -1,4 +1,6 @@
 // The one door to a reader (01, "What the library takes and gives"): bytes to a circuit, or number and place.
+#![tactic(auto)]
+
 ghost use Rattle.circuit.specs.Answer.{ReadAs};
 ghost use Rattle.file.specs.CircuitIn.{circuit_in};
 

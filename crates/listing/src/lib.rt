@@ -1,4 +1,6 @@
 // The listing (01, "Listings to compare"): the page that the verdict program prints for a file, written at the front of a lent buffer.
+#![tactic(auto)]
+
 mod lines;
 mod page;
 

@@ -1,4 +1,6 @@
 // The net of a circuit: the form in which it is evaluated, one list of numbers. A move: state, reading and control as one number.
+#![tactic(auto)]
+
 pub mod moves;
 mod names;
 mod numbers;

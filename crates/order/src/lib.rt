@@ -1,5 +1,7 @@
 // The order in which gates are evaluated (02, T-01): each behind the gates that define its operands. Definitions (specs/) and their laws
 // (proofs/Laws/); a graph is a list of numbers, two for each gate.
+#![tactic(auto)]
+
 mod circles;
 mod marks;
 mod placing;

@@ -1,4 +1,6 @@
 // Prints a circuit (01, "The numbers", last paragraph): header, lines in the order read, a symbol for each controllable input.
+#![tactic(auto)]
+
 mod lines;
 
 ghost use Rattle.std.specs.Prelude.{◌≡◌, [], ◌∷◌, ◌++◌, ◌*◌, ◌≤◌, min, length};

@@ -1,4 +1,6 @@
 // Bytes put at a place of a lent buffer (01, "The numbers": a success writes its bytes, a refusal none).
+#![tactic(auto)]
+
 pub mod packed;
 
 ghost use Rattle.std.specs.Prelude.{◌+◌, length, get_or, ◌≡◌};

@@ -1,5 +1,7 @@
 // The records of a certificate (01, "The certificate") and what their bytes mean: definitions (specs/) and laws (proofs/Laws/).
 // A certificate's shape and its first record; what the tables store; and how a passed certificate is read.
+#![tactic(auto)]
+
 pub mod passed;
 pub mod record;
 pub mod stored;

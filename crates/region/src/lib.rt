@@ -1,4 +1,6 @@
 // The region as bytes (01, "The certificate", kind 2), read off the ranks of a solved circuit.
+#![tactic(auto)]
+
 mod byte;
 
 ghost use Rattle.std.specs.Prelude.{◌/◌, ◌^◌, ◌≡◌};

@@ -1,4 +1,6 @@
 // Prints the circuit on standard input (01, "The numbers", last paragraph), or `refused`, number and place.
+#![tactic(auto)]
+
 use circuit::Written;
 use libc::STDIN_FILENO;
 

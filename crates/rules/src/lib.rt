@@ -1,5 +1,7 @@
 // The step rules of a certificate (01, "The certificate", what passes), over words that are evaluated already: whether a lane keeps the play in
 // the stored region, and whether some lane keeps it out of the states of stored rank 1 to a bound. Shared with no solver.
+#![tactic(auto)]
+
 ghost use Rattle.std.specs.Prelude.{ℕ, ◌+◌, ◌-◌, min, ◌≡◌};
 ghost use Rattle.below.specs.Least.{any};
 ghost use Rattle.blocks.specs.Lane.{width, lits_in};

@@ -1,4 +1,6 @@
 // The solver (01, "The game"): ranks by rounds, each worked out from the one before, kept whole; the replies and attacks beside them.
+#![tactic(auto)]
+
 pub mod counts;
 mod look;
 mod planes;

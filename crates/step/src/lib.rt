@@ -1,4 +1,6 @@
 // The step of a circuit (01, "The game").
+#![tactic(auto)]
+
 ghost use Rattle.std.specs.Prelude.{◌<◌, ◌*◌, ◌/◌, min, cond, false, not, ◌&&◌, ◌≡◌, eqb, length, get_or, take};
 ghost use Rattle.bits.specs.Bit.{odd, one_if};
 ghost use Rattle.circuit.specs.Limits.{base};

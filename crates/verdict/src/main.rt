@@ -1,4 +1,6 @@
 // The verdict program (01, "Listings to compare"): a circuit on standard input, its listing or refusal on standard output.
+#![tactic(auto)]
+
 ghost use Rattle.std.specs.Prelude.{◌≡◌, length};
 
 use circuit::{Circuit, Written};

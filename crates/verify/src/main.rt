@@ -1,5 +1,7 @@
 // verify CIRCUIT CERTIFICATE checks a certificate for a circuit file (01, "The certificate") and prints `passed`, or `refused`, number
 // and place.
+#![tactic(auto)]
+
 ghost use Rattle.std.specs.Prelude.{◌≡◌, length};
 
 use checker::Checked;

@@ -1,5 +1,7 @@
 // A view of a passed certificate (01, "The certificate"): the lent certificate bytes with the starts of its region and replies, as a pass
 // of the check answers them. L, U and C can't be had from these; its readers take them as numbers, which the pass answers too.
+#![tactic(auto)]
+
 ghost use Rattle.std.specs.Prelude.{min, ◌≡◌, drop};
 ghost use Rattle.records.specs.RegionBits.{holds_state};
 ghost use Rattle.records.specs.PackedReplies.{packed_reply};

@@ -1,5 +1,7 @@
 // The writer of certificates (01, "The certificate"; 02, T-07): kinds 1, 2 and 3 or 5 for a realizable circuit, kinds 1, 4 for an unrealizable
 // one.
+#![tactic(auto)]
+
 mod kinds;
 mod tables;
 
