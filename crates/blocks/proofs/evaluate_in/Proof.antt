@@ -10,7 +10,7 @@ first-gate-requires : tie.Need-first-gate-requires
 first-gate-requires c κs = search rules
 
 put-move-requires : tie.Need-put-move-requires
-put-move-requires c κs = (search rules, rw c.before.first-gate.ensures (first_gate_few c.before.before.before.before.args.net.now))
+put-move-requires c κs = (search rules, rw c.before.first_gate_lem.ensures (first_gate_few c.before.before.before.before.args.net.now))
 
 number-at-requires : tie.Need-number-at-requires
 number-at-requires c κs = search rules
@@ -24,7 +24,7 @@ add-put-gates c = search rules
 put-gates-requires : tie.Need-put-gates-requires
 put-gates-requires c κs = (
   search rules,
-  rw c.before.before.before.before.before.before.first-gate.ensures
+  rw c.before.before.before.before.before.before.first_gate_lem.ensures
       (first_gate_few c.before.before.before.before.before.before.before.before.before.args.net.now),
 )
 
@@ -33,7 +33,7 @@ same_length c = search rules
 
 returns : tie.Need-returns
 returns c = let a = c.before.before.before.before.before.before.before.before.before.before.before.before.args in
-    let g = c.before.before.before.before.before.before.before.before.before.first-gate in
+    let g = c.before.before.before.before.before.before.before.before.before.first_gate_lem in
     λ j h. evaluated_so a.net.now (move_in a.block j) g.result c.before.before.before.number_at.result (lits_in a.words.now j)
     (lits_in c.before.before.before.before.before.before.before.put-move.new.0 j) (lits_in c.before.before.put-gates.new.0 j)
     g.ensures c.before.before.before.number_at.ensures (c.before.before.before.before.before.before.before.put-move.ensures

@@ -134,12 +134,12 @@ put-gates-requires c κs =
     let zeros = zeros_long (counted_l latches).before.before.before.before.before.before.before.before.before.before in (
       search rules,
       (
-        omega (arith, k.gates-read, k.gate-long),
+        omega (arith, k.gates_read, k.gate_long),
         (
-          omega (arith, k.gates-read),
+          omega (arith, k.gates_read),
           (
-            omega (arith, k.latches-read),
-            (omega (arith, k.inputs_read), (omega (arith, k.latches-read, k.gates-read, zeros), first latches)),
+            omega (arith, k.latches_read),
+            (omega (arith, k.inputs_read), (omega (arith, k.latches_read, k.gates_read, zeros), first latches)),
           ),
         ),
       ),
@@ -156,8 +156,8 @@ put-nexts-requires c κs =
     let gates = c.before.before.before.before.before.before.before.before.before in
     let k = counts (counted_g gates) in
     let zeros = zeros_long (counted_g gates).before.before.before.before.before.before.before.before.before.before in (
-      omega (arith, k.latches-read, k.latch-long),
-      (omega (arith, k.latches-read), (omega (arith, k.latches-read, gates_kept gates, zeros), all gates)),
+      omega (arith, k.latches_read, k.latch_long),
+      (omega (arith, k.latches_read), (omega (arith, k.latches_read, gates_kept gates, zeros), all gates)),
     )
 
 slice-aggregate-net-literal : tie.Need-slice-aggregate-net-literal
@@ -181,20 +181,20 @@ put-head-requires c κs =
       few_controls_lem (counted_x nexts),
       (
         omega (arith, k.inputs_read),
-        (omega (arith, k.latches-read), omega (arith, nexts_kept nexts, gates_kept gates, zeros)),
+        (omega (arith, k.latches_read), omega (arith, nexts_kept nexts, gates_kept gates, zeros)),
       ),
     )
 
 add-t12 : tie.Need-overflow-add-t12
-add-t12 c = omega (arith, (counts (counted_x c.before.before.before.before.before.before.before)).latches-read)
+add-t12 c = omega (arith, (counts (counted_x c.before.before.before.before.before.before.before)).latches_read)
 
 mul-t54 : tie.Need-overflow-mul-t54
-mul-t54 c = omega (arith, (counts (counted_x c.before.before.before.before.before.before.before)).gates-read)
+mul-t54 c = omega (arith, (counts (counted_x c.before.before.before.before.before.before.before)).gates_read)
 
 add-t55 : tie.Need-overflow-add-t55
 add-t55 c =
     let k = counts (counted_x c.before.before.before.before.before.before.before) in
-    omega (arith, k.latches-read, k.gates-read)
+    omega (arith, k.latches_read, k.gates_read)
 
 returns : tie.Need-returns
 returns c =

@@ -55,7 +55,7 @@ slice-write-numbers : tie.Need-slice-write-numbers invariant-loop decreases-loop
 slice-write-numbers c = omega (
   arith,
   c.before.before.before.before.before.before.before.loop.invariant.place,
-  c.before.before.before.before.before.before.before.loop.invariant.numbers-long,
+  c.before.before.before.before.before.before.before.loop.invariant.numbers_long,
 )
 
 add-numbers : tie.Need-overflow-add-numbers invariant-loop decreases-loop
@@ -69,12 +69,12 @@ slice-write-numbers-2 c = simp length-set
     (omega (
       arith,
       c.before.before.before.before.before.before.before.loop.invariant.place,
-      c.before.before.before.before.before.before.before.loop.invariant.numbers-long,
+      c.before.before.before.before.before.before.before.loop.invariant.numbers_long,
     ))
 
 name-at-requires : tie.Need-name-at-requires invariant-loop decreases-loop
 name-at-requires c κs = let l = c.before.before.before.before.before.before.before.before.loop in
-    (omega (arith, l.invariant.names-long), omega (arith, l.invariant.next))
+    (omega (arith, l.invariant.names_long), omega (arith, l.invariant.next))
 
 add-v-3 : tie.Need-overflow-add-v-3 invariant-loop decreases-loop
 add-v-3 c = search rules
