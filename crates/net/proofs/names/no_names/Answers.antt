@@ -2,11 +2,7 @@
 use Prim.Native.Nat.{◌+◌}
 use Rattle.below.proofs.Laws.Filled.{replicate_table}
 use Rattle.circuit.specs.Limits.{base}
-use Rattle.net.proofs.names.no_names.Statement.{statement}
-use Rattle.net.proofs.names.no_names.Tie as tie
+use Rattle.net.proofs.names.no_names.Goals as goal
 
-returns : tie.Need-returns
+pub returns : goal.returns
 returns c = replicate_table (base.variable + 1) 0
-
-pub no-names-spec : {M : Type 1} → statement M
-no-names-spec = tie.close (tie.spec returns)
