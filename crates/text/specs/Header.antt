@@ -1,5 +1,5 @@
 -- The header (01, "The file", rule 1): `aag M I L O A`, with M at least I + L + A, within the limits. Assumes nothing.
-use Rattle.std.specs.Prelude.{ℕ, ◌+◌, Bool, cond, ◌&&◌, List, [], ◌∷◌, eqb, leb, get_or, drop}
+use Rattle.std.specs.Prelude.{ℕ, ◌+◌, Bool, cond, ◌&&◌, List, eqb, leb, get_or, drop}
 use Rattle.std.proofs.Math.Option.{Option, none}
 use Rattle.bits.specs.Bytes.{ascii, starts_with}
 use Rattle.circuit.specs.Limits.{Limits}

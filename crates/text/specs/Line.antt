@@ -1,7 +1,7 @@
 -- Lines (01, "The file"): every line ends in byte 10; single spaces stand between numbers; no other blank is allowed. Assumes nothing.
-use Rattle.std.specs.Prelude.{ℕ, zero, suc, Bool, true, false, cond, List, [], ◌∷◌, ◌++◌, eqb, get_or, drop, replicate}
+use Rattle.std.specs.Prelude.{ℕ, zero, suc, true, false, cond, List, [], ◌∷◌, ◌++◌, eqb, get_or, drop, replicate}
 use Rattle.std.proofs.Math.Option.{Option, none, some}
-use Rattle.text.specs.Number.{Num, is, bad, number}
+use Rattle.text.specs.Number.{is, bad, number}
 
 -- a byte before the first line of lines
 unfoldable pub before : ℕ → List (List ℕ) → List (List ℕ)

@@ -1,5 +1,5 @@
 -- Symbol lines and the comment (01, "The file", rules 5 and 6), and which inputs are controllable. Assumes nothing.
-use Rattle.std.specs.Prelude.{ℕ, zero, suc, ◌+◌, Bool, true, false, cond, not, ◌&&◌, eqb, leb, ltb, length, get_or, drop}
+use Rattle.std.specs.Prelude.{ℕ, suc, Bool, true, false, cond, not, ◌&&◌, eqb, leb, ltb, length, get_or, drop}
 use Prim.Native.Char.{code}
 use mathlib.Core.List.{List, [], ◌∷◌, ◌++◌, flat_map}
 use Rattle.std.proofs.Math.Option.{Option, none, some}
@@ -7,7 +7,7 @@ use Rattle.below.specs.Among.{among}
 use Rattle.bits.specs.Bytes.{ascii, same_bytes, starts_with}
 use Rattle.circuit.specs.Outcome.{Outcome, taken, refused, ◌>>=◌}
 use Rattle.text.specs.Header.{Header}
-use Rattle.text.specs.Number.{Num, is, bad, number, run}
+use Rattle.text.specs.Number.{is, bad, number, run}
 use Rattle.text.specs.Numbers.{bad_symbol}
 
 pub record Symbol : Type 0 where

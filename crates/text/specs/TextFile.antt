@@ -3,7 +3,7 @@
 use Rattle.std.specs.Prelude.{ℕ, List, map, length, get_or}
 use Rattle.std.proofs.Math.Option.{Option}
 use Rattle.below.specs.Table.{table}
-use Rattle.circuit.specs.Circuit.{Circuit, Input, Latch, Gate, gate_at}
+use Rattle.circuit.specs.Circuit.{Circuit, Latch, Gate, gate_at}
 use Rattle.text.specs.GateUses.{evaluation, evaluated}
 use Rattle.text.specs.Symbol.{Symbol, is_controllable}
 

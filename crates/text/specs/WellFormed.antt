@@ -1,6 +1,6 @@
 -- What document 01 asks of a file (01, "The file", rules 1 to 6, and the limits; 02, T-01), rule by rule, of a file given by its numbers, names and
 -- comment; Written.text_of says what is written down for it. Nothing is read here. Assumes nothing.
-use Rattle.std.specs.Prelude.{ℕ, ◌+◌, ◌*◌, ◌%◌, ◌^◌, ◌<◌, ◌≤◌, List, [], ◌∷◌, ◌++◌, map, ◌⊎◌, ◌≢◌, ◌≡◌, length}
+use Rattle.std.specs.Prelude.{ℕ, ◌+◌, ◌*◌, ◌%◌, ◌^◌, ◌<◌, ◌≤◌, List, ◌++◌, map, ◌⊎◌, ◌≢◌, ◌≡◌, length}
 use Rattle.circuit.specs.Circuit.{Latch, Gate}
 use Rattle.circuit.specs.Limits.{Limits}
 use Rattle.circuit.specs.Literal.{variable}

@@ -1,20 +1,19 @@
 -- What holds of a bit of a number, at every width. Assumes nothing.
-use Prim.Native.Nat.{ℕ, zero, suc, ◌+◌, ◌*◌, ◌-◌, ◌/◌, ◌%◌, ◌^◌, ◌<◌, ◌≤◌, min, max}
+use Prim.Native.Nat.{ℕ, zero, suc, ◌+◌, ◌*◌, ◌-◌, ◌/◌, ◌%◌, ◌^◌, ◌<◌, ◌≤◌, min}
 use native.Mathlib.Omega.{arith}
 use native.Mathlib.Nat.{div-one, mul_comm, pow-suc, div-div-eq-div-mul, div-eq_of_lt, mod-eq_of_lt, pow-zero}
-use native.Mathlib.Nat.{not-suc-le-zero, le_of_suc-le-suc, mul-one, one-mul, zero-div, zero-mod, mod-mod, mod-one}
-use lib.Arith.{mod-mul}
+use native.Mathlib.Nat.{not-suc-le-zero, le_of_suc-le-suc, mul-one, one-mul}
 use lib.Dec.{eqb}
-use lib.Pow.{pow_pos, pow-lt}
+use lib.Pow.{pow-lt}
 use lib.Bits.{bit_and, and_mask, and_step, and_zero_r}
 use mathlib.Core.Bool.{Bool, true, false}
-use mathlib.Core.List.{List, [], ◌∷◌}
+use mathlib.Core.List.{List}
 use mathlib.Core.Logic.{◌≢◌}
-use mathlib.Core.Path.{◌≡◌, refl, sym, ap, ap₂, ◌∙◌, subst}
+use mathlib.Core.Path.{◌≡◌, refl, sym, ap, ap₂, ◌∙◌}
 use lib.ListN.{length, get_or}
 use Rattle.bits.specs.Bit.{bit, one_if, with_bit}
 use Rattle.bits.specs.Digits.{digits, sum, AllBelow}
-use Rattle.bits.proofs.Laws.Digits.{get_or-digits, digits_sum, digits_mod_pow, sum-digits}
+use Rattle.bits.proofs.Laws.Digits.{get_or-digits, digits_sum, digits_mod_pow}
 
 pub bit_zero : (n : ℕ) → bit n 0 ≡ n % 2
 unfolding bit

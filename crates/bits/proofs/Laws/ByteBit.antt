@@ -5,8 +5,8 @@ use native.Mathlib.Decide.{dec_lt, ℕ_discrete}
 use mathlib.Core.Bool.{Bool}
 use mathlib.Core.List.{List}
 use mathlib.Core.Logic.{◌≢◌}
-use mathlib.Core.Path.{◌≡◌, refl, sym, ap, ap₂, ◌∙◌, subst}
-use lib.ListN.{length, get_or, set, length-set, get_or-eq_default}
+use mathlib.Core.Path.{◌≡◌, ap}
+use lib.ListN.{length, get_or, set, length-set}
 use lib.Seq.{get_or-set_same, get_or-set_other, set_out}
 use Rattle.bits.specs.Bit.{bit, one_if, with_bit}
 use Rattle.bits.specs.ByteBit.{byte_bit, with_byte_bit}

@@ -1,12 +1,11 @@
 -- What holds of the digits of a number and of the sum of digits, in every base and at every width. Assumes nothing.
-use Prim.Native.Nat.{ℕ, zero, suc, ◌+◌, ◌*◌, ◌/◌, ◌%◌, ◌^◌, ◌<◌, ◌≤◌}
+use Prim.Native.Nat.{ℕ, zero, suc, ◌+◌, ◌*◌, ◌/◌, ◌%◌, ◌^◌, ◌<◌}
 use native.Mathlib.Omega.{arith}
 use native.Mathlib.Nat.{not-suc-le-zero, le_of_suc-le-suc, pow-zero, pow-suc, mod-one, mod-lt, div-one, mul_comm, add_comm}
-use native.Mathlib.Nat.{div-div-eq-div-mul, mul-pos, one-le-pow, add-mul-div_left, add-mul-mod_self_left, mod-eq_of_lt, div-eq_of_lt}
-use native.Mathlib.Nat.{mul-le-mul_left}
+use native.Mathlib.Nat.{div-div-eq-div-mul, one-le-pow}
 use lib.Arith.{mod-mul, digits_lt, digits_div, digits_mod}
 use mathlib.Core.List.{List, [], ◌∷◌}
-use mathlib.Core.Path.{◌≡◌, refl, sym, ap, ap₂, ◌∙◌, subst}
+use mathlib.Core.Path.{◌≡◌, refl, sym, ap, ap₂, ◌∙◌}
 use lib.ListN.{length, get_or}
 use Rattle.bits.specs.Digits.{digits, sum, AllBelow}
 

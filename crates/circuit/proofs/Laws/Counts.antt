@@ -1,19 +1,15 @@
 -- The counts of a circuit of lent lists: inputs counted one by one, uncontrollable and controllable ones together, and no more latches
 -- than a circuit may have. Assumes nothing.
-use Prim.Native.Nat.{ℕ, suc, ◌+◌, ◌-◌, min, ◌<◌, ◌≤◌}
+use Prim.Native.Nat.{ℕ, suc, ◌+◌, ◌-◌, min, ◌≤◌}
 use native.Mathlib.Omega.{arith}
-use native.Mathlib.Numerals.{add-one}
 use mathlib.Core.Bool.{Bool, true, false, cond, not}
 use mathlib.Core.List.{List, [], ◌∷◌}
-use mathlib.Core.Path.{◌≡◌, refl, ap, ◌∙◌}
-use lib.Dec.{eqb}
-use lib.ListN.{length, get_or, drop}
-use Rattle.below.specs.Table.{table}
-use Rattle.below.proofs.Laws.Table.{length_table, drop_table, drop_table_all}
-use Rattle.bits.specs.Bit.{one_if}
+use mathlib.Core.Path.{◌≡◌, refl, ◌∙◌}
+use lib.ListN.{length}
+use Rattle.below.proofs.Laws.Table.{length_table}
 use Rattle.circuit.specs.Circuit.{Input, inputs_that, latch_count, uncontrollable_count, controllable_count}
 use Rattle.circuit.specs.Limits.{base}
-use Rattle.circuit.specs.Stored.{literal_of, inputs_of, latches_of, lent}
+use Rattle.circuit.specs.Stored.{inputs_of, latches_of, lent}
 
 -- uncontrollable and controllable inputs are all inputs
 pub inputs_of_two_sorts : (is : List Input) → inputs_that (λ i. not i.controllable) is + inputs_that (λ i. i.controllable) is ≡ length is

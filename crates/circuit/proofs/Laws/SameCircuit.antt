@@ -2,7 +2,7 @@
 use mathlib.Core.Path.{◌≡◌, refl, subst}
 use mathlib.Core.List.{List, [], ◌∷◌, map}
 use Rattle.circuit.specs.Circuit.{Circuit, Input}
-use Rattle.circuit.specs.SameCircuit.{SameCircuit, SameHeader, SameLines}
+use Rattle.circuit.specs.SameCircuit.{SameCircuit}
 
 -- inputs with the same literals and flags are the same inputs
 pub same_inputs : (is js : List Input) → map (λ (i : Input). i.own) is ≡ map (λ (i : Input). i.own) js

@@ -8,7 +8,7 @@ use lib.ListN.{length}
 use lib.Seq.{take_all}
 use Rattle.below.specs.Table.{table}
 use Rattle.below.proofs.Laws.Table.{length_table}
-use Rattle.order.specs.Placing.{Placing, visit, nothing, visits, placed, order_of}
+use Rattle.order.specs.Placing.{Placing, visit, visits, placed, order_of}
 use Rattle.order.specs.Inner.Unseen.{unseen}
 use Rattle.order.specs.Inner.Visited.{Room, Visited, placing_of}
 use Rattle.order.proofs.Laws.Placed.{unseen_all, placed_all}

@@ -11,7 +11,7 @@ use lib.ListN.{get_or}
 use Rattle.below.specs.Among.{among, member}
 use Rattle.order.specs.Uses.{Uses, as_first, as_second, first_of, second_of}
 use Rattle.order.specs.Reaches.{Reaches, at_once, through}
-use Rattle.order.specs.Placing.{Placing, marked, waits, mark, place, nothing, visits, placed, order_of}
+use Rattle.order.specs.Placing.{Placing, marked, waits, mark, place, visits, placed, order_of}
 use Rattle.order.specs.Ordered.{Ordered, is_ordered}
 use Rattle.order.specs.Circle.{lowest_circle}
 use Rattle.order.proofs.Laws.Marks.{mark_same, mark-other, mark_grows, waits_below, waits-unmarked, past_stays}

@@ -1,5 +1,4 @@
 -- `put::close_gap` moves and clears at once, byte by byte: each turn one byte more is that of the closed gap. Assumes nothing.
-use Prim.Native.Nat.{◌-◌}
 use native.Mathlib.Omega.{arith}
 use Rattle.put.proofs.Laws.Gapped.{gapped_start, gapped_more, gapped_ends}
 use Rattle.put.proofs.close_gap.Goals as goal

@@ -1,5 +1,4 @@
 -- `bits::bytes::same_bytes` meets its contract: lists of one length that agree at every place are equal. Assumes nothing.
-use Prim.Native.Nat.{◌-◌}
 use native.Mathlib.Omega.{arith}
 use mathlib.Core.Path.{sym, ap}
 use borrow.Author.Count.{below_more}

@@ -1,5 +1,5 @@
 -- `bits::packed::packed_number` meets its contract: bit after bit is gathered, and no place wraps. Assumes nothing.
-use Prim.Native.Nat.{ℕ, ◌+◌, ◌*◌, ◌-◌}
+use Prim.Native.Nat.{ℕ, ◌+◌, ◌*◌}
 use native.Mathlib.Omega.{arith}
 use mathlib.Core.Path.{◌≡◌, ap, ◌∙◌}
 use Rattle.bits.specs.ByteBit.{byte_bit}

@@ -1,5 +1,4 @@
 -- `bits::packed::unused_bit` meets its contract: none of the unused bits passed is 1. Assumes nothing.
-use Prim.Native.Nat.{◌-◌}
 use native.Mathlib.Omega.{arith}
 use Rattle.bits.proofs.Laws.UnusedBytes.{none_before_start, none_before_next, none_before-found, none_before_end}
 use Rattle.bits.proofs.packed.unused_bit.Goals as goal

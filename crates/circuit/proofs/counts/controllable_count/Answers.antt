@@ -1,5 +1,5 @@
 -- `circuit::counts::controllable_count` meets its contract: so many of the inputs passed are controllable. Assumes nothing.
-use Prim.Native.Nat.{ℕ, ◌+◌, ◌-◌}
+use Prim.Native.Nat.{ℕ, ◌+◌}
 use mathlib.Core.Path.{sym, ◌∙◌, subst}
 use Rattle.circuit.proofs.Laws.Inputs.{Counting, counting_start, counting_one, counting_none, counting_end}
 use Rattle.circuit.proofs.counts.controllable_count.Goals as goal

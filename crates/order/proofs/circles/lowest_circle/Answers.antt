@@ -1,5 +1,5 @@
 -- `order::circles::lowest_circle` meets its contract: none of the gates passed meets itself. Assumes nothing.
-use Prim.Native.Nat.{ℕ, ◌-◌}
+use Prim.Native.Nat.{ℕ}
 use native.Mathlib.Omega.{arith}
 use mathlib.Core.Bool.{Bool}
 use mathlib.Core.List.{List}

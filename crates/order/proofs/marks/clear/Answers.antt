@@ -1,5 +1,4 @@
 -- `order::marks::clear` meets its contract: what is passed is 0. Assumes nothing.
-use Prim.Native.Nat.{◌-◌}
 use native.Mathlib.Omega.{arith}
 use mathlib.Core.Path.{refl}
 use Rattle.below.proofs.Laws.Filled.{filled_start, filled_next, filled_whole}

@@ -1,5 +1,4 @@
 -- `order::placing::place` meets its contract: after each visit marks and places are those of the definition. Assumes nothing.
-use Prim.Native.Nat.{◌-◌}
 use native.Mathlib.Omega.{arith}
 use mathlib.Core.Path.{sym, ap, ◌∙◌}
 use Rattle.order.proofs.Laws.Going.{going_start, going_room, going_next, going_end, cleared}

@@ -1,5 +1,5 @@
 -- `order::test::in_order` meets its contract: the gates in front are marked. Assumes nothing.
-use Prim.Native.Nat.{ℕ, ◌-◌}
+use Prim.Native.Nat.{ℕ}
 use native.Mathlib.Omega.{arith}
 use mathlib.Core.Path.{sym, ap, ◌∙◌}
 use Rattle.order.specs.Ordered.{is_ordered}

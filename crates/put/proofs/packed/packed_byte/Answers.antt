@@ -1,5 +1,4 @@
 -- `put::packed::packed_byte` meets its contract: bit after bit is gathered. Assumes nothing.
-use Prim.Native.Nat.{◌-◌}
 use native.Mathlib.Omega.{arith}
 use Rattle.bits.specs.BitBytes.{bit_byte}
 use Rattle.bits.proofs.Laws.Bit.{one_if_below}

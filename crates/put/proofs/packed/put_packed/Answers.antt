@@ -1,5 +1,5 @@
 -- `put::packed::put_packed` meets its contract: byte after byte is laid. Assumes nothing.
-use Prim.Native.Nat.{ℕ, ◌-◌}
+use Prim.Native.Nat.{ℕ}
 use mathlib.Core.Path.{ap, ◌∙◌}
 use lib.Seq.{sets}
 use Rattle.below.specs.Table.{table}
