@@ -32,7 +32,7 @@ add-t30 c =
     let p = c8.before.before.before.place-gates in
     let q = c.before.before.before.gate.given in
     let circle = subst (PlacedAs (said a.h) y.new.1.1.1.0 p.new.1.1.1.1.0) q.1 p.ensures in
-    let low : q.0.0 < 2 ^ 15 = omega (arith, circle.below, s.requires.gates, s.requires.body.marks-all, s.requires.body.marks-few) in
+    let low : q.0.0 < 2 ^ 15 = omega (arith, circle.below, s.requires.gates, s.requires.body.marks_all, s.requires.body.marks_few) in
     search (rules, low)
 
 returns : tie.Need-returns

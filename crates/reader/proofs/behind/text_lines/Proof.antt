@@ -22,10 +22,10 @@ symbol-lines-requires c κs =
     record {
       within = w.within;
       places = omega (arith, w.line, p.places);
-      marks_all = p.names-all;
-      marks_none = p.names-none;
-      flags_all = p.flags-all;
-      flags_none = p.flags-none;
+      marks_all = p.names_all;
+      marks_none = p.names_none;
+      flags_all = p.flags_all;
+      flags_none = p.flags_none;
     }
 
 returns : tie.Need-returns

@@ -16,7 +16,7 @@ slice-aggregate-order-of c =
     let c16 = c8.before.before.before.before.before.before.before.before in
     let a = c16.before.args in
     let u = c.before.before.before.uses-of in
-    sym (length-take-le (2 * a.h.gates) u.new.1.1.1.1.0 (omega (arith, u.auto.1.1.1.1.0, c16.before.requires.uses-all)))
+    sym (length-take-le (2 * a.h.gates) u.new.1.1.1.1.0 (omega (arith, u.auto.1.1.1.1.0, c16.before.requires.uses_all)))
 
 returns : tie.Need-returns
 returns c =
