@@ -1,8 +1,8 @@
 // The listing (01, "Listings to compare"): the page that the verdict program prints for a file, written at the front of a lent buffer.
 #![tactic(auto)]
 
-mod lines;
 mod page;
+mod put_lines;
 
 ghost use Rattle.circuit.specs.Stored.{meant, solvable};
 ghost use Rattle.game.specs.Listing.{listing_of};

@@ -5,7 +5,7 @@ ghost use Rattle.bits.specs.Wrote.{Wrote};
 ghost use Rattle.listing.specs.Page.{refusal_text, verdict_word};
 ghost use Rattle.listing.specs.Inner.SolvedText.{solved_text};
 
-use crate::lines::{is_inside, put_attacks, put_field, put_number, put_replies, put_three};
+use crate::put_lines::{is_inside, put_attacks, put_field, put_number, put_replies, put_three};
 use circuit::Refusal;
 use circuit::counts::numbers;
 use put::put_bytes;

@@ -1,7 +1,7 @@
 // Prints a circuit (01, "The numbers", last paragraph): header, lines in the order read, a symbol for each controllable input.
 #![tactic(auto)]
 
-mod lines;
+mod put_lines;
 
 ghost use Rattle.std.specs.Prelude.{◌≡◌, [], ◌∷◌, ◌++◌, ◌*◌, ◌≤◌, min, length};
 ghost use Rattle.bits.specs.Wrote.{Wrote};
@@ -14,8 +14,8 @@ ghost use Rattle.printer.specs.FilePrinted.{file_printed};
 ghost use Rattle.printer.specs.Inner.Line.{longest_line};
 
 use circuit::{Circuit, Read, Refusal, Written};
-use lines::{literal_at, put_gates, put_inputs, put_latches, put_names, put_number};
 use put::put_bytes;
+use put_lines::{literal_at, put_gates, put_inputs, put_latches, put_names, put_number};
 
 // 10: lent buffer shorter than what must be written (01, "The numbers").
 const NO_ROOM: u8 = 10;
