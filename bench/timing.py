@@ -1,4 +1,4 @@
-"""How the programs that are measured are started and timed: the proved ones (`rt check`) and bench/fast.c as bench/native makes them, and
+"""How the programs that are measured are started and timed: the proved ones (`rt ci`) and bench/fast.c as bench/native makes them, and
 the independent second program (`.ci/compare`)."""
 import functools
 import os
@@ -25,11 +25,9 @@ def begin(about, programs, second=False):
     lacking = [] if shutil.which("rt") else ["the Rattle kit's rt on the path"]
     if not shutil.which("lscpu"):
         lacking.append("lscpu")
-    if platform.machine() != "x86_64" and not shutil.which("cc"):
-        lacking.append("a C compiler, cc")
-    missing = [program for program in programs if not (ROOT / "target" / "bin" / program).exists()]
+    missing = [program for program in programs if not (ROOT / "crates" / program / "out" / program).exists()]
     if missing:
-        lacking.append(f"{', '.join(missing)}: rt check {' '.join(missing)}")
+        lacking.append(f"{', '.join(missing)}: rt ci, or rt run in the crate's folder")
     if second and not SECOND.exists():
         lacking.append("the second program: .ci/compare")
     if lacking:
@@ -72,8 +70,6 @@ def best(*calls, times=TIMES, enough=ENOUGH):
 def machine():
     """The processor and how busy it is, and what runs on it."""
     kind, how = platform.machine(), "all native"
-    if kind != "x86_64":
-        how += f"; certify, verify and answers from the LLVM module that the kit compiles for x86-64, compiled for {kind}"
     for line in subprocess.run(["lscpu"], stdout=subprocess.PIPE, text=True, check=False).stdout.splitlines():
         if line.startswith("Model name:"):
             kind = f"{line.split(':')[1].strip()} ({kind})"

@@ -1,5 +1,5 @@
 /* The library for C and C++: each function is that of the crate `capi`, with the promise written there (docs/PROMISES.md; the words are those
-   of docs/FORMAT.md). It links into x86-64 programs: `rt staticlib capi` makes target/staticlib/libcapi.a.
+   of docs/FORMAT.md). It links into x86-64 programs: `.ci/archive` makes target/staticlib/libcapi.a.
 
    Lent bytes are a pointer, which isn't NULL, and a count. A buffer that is written to overlaps no other. Nothing is kept after a call, and
    nothing is allocated; 4 MiB of stack are enough for krastopi_certify and krastopi_certify_packed, 1 MiB for every other function. In an

@@ -26,16 +26,16 @@ def words_before():
 
 def start(program):
     """The words that start a program."""
-    return [*words_before(), ROOT / "target" / "bin" / program]
+    return [*words_before(), ROOT / "crates" / program / "out" / program]
 
 
 def run(words, **more):
     """What a call writes to standard output and standard error, and its status; a call that hangs has no status."""
-    more = {"stdout": subprocess.PIPE, "stderr": subprocess.PIPE, **more}
+    more = {"stdout": subprocess.PIPE, "stderr": subprocess.PIPE, "timeout": LONGEST, **more}
     if "input" not in more:
         more.setdefault("stdin", subprocess.DEVNULL)
     try:
-        ran = subprocess.run([str(word) for word in words], timeout=LONGEST, check=False, **more)
+        ran = subprocess.run([str(word) for word in words], check=False, **more)
     except subprocess.TimeoutExpired:
         return Ran(b"", b"(took too long)", None)
     return Ran(ran.stdout, ran.stderr, ran.returncode)

@@ -1,5 +1,6 @@
 // The library for other languages (01, "What the library takes and gives"): each function is the one that it calls, over plain numbers and
-// lent bytes. In an answer number 0 says that nothing was refused; after a refusal all but number and place is 0.
+// lent bytes. In an answer number 0 says that nothing was refused; after a refusal all but number and place is 0. The crate `capi_c` exports
+// these functions under their names.
 #![tactic(auto)]
 
 mod plain;
@@ -86,8 +87,7 @@ pub struct Part {
 }
 
 // Reads a file of any content.
-#[unsafe(no_mangle)]
-pub extern "C" fn krastopi_read(file: &[u8]) -> ReadAnswer
+pub fn krastopi_read(file: &[u8]) -> ReadAnswer
     ensures { result ≡ read_answer (circuit_in file.now) }
 {
     let read = file::read(file);
@@ -99,8 +99,7 @@ pub extern "C" fn krastopi_read(file: &[u8]) -> ReadAnswer
 }
 
 // A step of a file's circuit. Bits of state, reading and control above L, U and C aren't read.
-#[unsafe(no_mangle)]
-pub extern "C" fn krastopi_step(file: &[u8], state: u16, reading: u8, control: u8) -> StepAnswer
+pub fn krastopi_step(file: &[u8], state: u16, reading: u8, control: u8) -> StepAnswer
     ensures { result ≡ step_answer (file_stepped file.now state reading control) }
 {
     let read = file::read(file);
@@ -117,8 +116,7 @@ pub extern "C" fn krastopi_step(file: &[u8], state: u16, reading: u8, control: u
 }
 
 // Writes the certificate of a file at the front of a buffer, a byte for each reply. A refusal writes nothing.
-#[unsafe(no_mangle)]
-pub extern "C" fn krastopi_certify(file: &[u8], out: &mut [u8]) -> CertifyAnswer
+pub fn krastopi_certify(file: &[u8], out: &mut [u8]) -> CertifyAnswer
     ensures value { result ≡ certify_answer (verdict_for reply_kind file.now (circuit_in file.now) (length out.old)) }
     ensures out_after { out.new ≡ buffer_after (certificate_for reply_kind file.now (circuit_in file.now)
         (length out.old)) out.old }
@@ -127,8 +125,7 @@ pub extern "C" fn krastopi_certify(file: &[u8], out: &mut [u8]) -> CertifyAnswer
 }
 
 // The same with packed replies.
-#[unsafe(no_mangle)]
-pub extern "C" fn krastopi_certify_packed(file: &[u8], out: &mut [u8]) -> CertifyAnswer
+pub fn krastopi_certify_packed(file: &[u8], out: &mut [u8]) -> CertifyAnswer
     ensures value { result ≡ certify_answer (verdict_for packed_kind file.now (circuit_in file.now) (length out.old)) }
     ensures out_after { out.new ≡ buffer_after (certificate_for packed_kind file.now (circuit_in file.now)
         (length out.old)) out.old }
@@ -137,16 +134,14 @@ pub extern "C" fn krastopi_certify_packed(file: &[u8], out: &mut [u8]) -> Certif
 }
 
 // Whether a certificate passes for a file.
-#[unsafe(no_mangle)]
-pub extern "C" fn krastopi_check<'a>(file: &'a [u8], certificate: &'a [u8]) -> CheckAnswer
+pub fn krastopi_check<'a>(file: &'a [u8], certificate: &'a [u8]) -> CheckAnswer
     ensures { result ≡ check_answer (answer_of file.now certificate.now) }
 {
     plain::checked(checker::check(file, certificate))
 }
 
 // Prints the circuit of a file at the front of a buffer. A refusal writes nothing.
-#[unsafe(no_mangle)]
-pub extern "C" fn krastopi_print(file: &[u8], out: &mut [u8]) -> PrintAnswer
+pub fn krastopi_print(file: &[u8], out: &mut [u8]) -> PrintAnswer
     ensures value { result ≡ print_answer (count_of (file_printed file.now (length out.old))) }
     ensures out_after { out.new ≡ buffer_after (file_printed file.now (length out.old)) out.old }
 {
@@ -154,8 +149,7 @@ pub extern "C" fn krastopi_print(file: &[u8], out: &mut [u8]) -> PrintAnswer
 }
 
 // The circuit record of a certificate; nothing where the first record is cut short or of another kind.
-#[unsafe(no_mangle)]
-pub extern "C" fn krastopi_circuit_record(certificate: &[u8]) -> Part
+pub fn krastopi_circuit_record(certificate: &[u8]) -> Part
     ensures { result ≡ circuit_part (split certificate.now) }
 {
     let RecordAt::Whole { kind, start, end } = records::record::record_at(certificate, 0) else {
@@ -173,21 +167,14 @@ pub extern "C" fn krastopi_circuit_record(certificate: &[u8]) -> Part
 
 // Whether the stored region holds a state. This and the next three take what the check answered whole, so that no start or count can stand
 // for another; bytes that aren't there count as 0, and bits of state and reading above L and U aren't read.
-#[unsafe(no_mangle)]
-pub extern "C" fn krastopi_region_bit(certificate: &[u8], passed: CheckAnswer, state: usize) -> bool
+pub fn krastopi_region_bit(certificate: &[u8], passed: CheckAnswer, state: usize) -> bool
     ensures { result ≡ holds_state (drop passed.region certificate.now) passed.latches state }
 {
     records::passed::region_bit(certificate, passed.region, passed.latches, state)
 }
 
 // The reply to a reading at a state, by the kind of the table: the stored one inside the stored region, 0 outside.
-#[unsafe(no_mangle)]
-pub extern "C" fn krastopi_reply(
-    certificate: &[u8],
-    passed: CheckAnswer,
-    state: usize,
-    reading: usize,
-) -> u8
+pub fn krastopi_reply(certificate: &[u8], passed: CheckAnswer, state: usize, reading: usize) -> u8
     ensures { result ≡ reply_in (drop passed.region certificate.now) passed.latches
         (stored_of passed (drop passed.table certificate.now)) state reading }
 {
@@ -215,16 +202,14 @@ pub extern "C" fn krastopi_reply(
 }
 
 // The stored rank of a state.
-#[unsafe(no_mangle)]
-pub extern "C" fn krastopi_rank(certificate: &[u8], passed: CheckAnswer, state: usize) -> u16
+pub fn krastopi_rank(certificate: &[u8], passed: CheckAnswer, state: usize) -> u16
     ensures { result ≡ stored_rank (drop passed.table certificate.now) passed.latches state }
 {
     records::passed::rank(certificate, passed.table, passed.latches, state)
 }
 
 // The stored attack of a state.
-#[unsafe(no_mangle)]
-pub extern "C" fn krastopi_attack(certificate: &[u8], passed: CheckAnswer, state: usize) -> u8
+pub fn krastopi_attack(certificate: &[u8], passed: CheckAnswer, state: usize) -> u8
     ensures { result ≡ stored_attack (drop passed.table certificate.now) passed.latches state }
 {
     records::passed::attack(certificate, passed.table, passed.latches, state)
