@@ -5,7 +5,7 @@ use Rattle.bits.specs.Bit.{one_if}
 use Rattle.bits.specs.Digits.{sum}
 use Rattle.circuit.specs.Circuit.{Circuit, Latch}
 use Rattle.step.specs.declared.Stepped.{Stepped}
-use Rattle.step.specs.Value.{Valuation, literal_value, valuation}
+use Rattle.step.specs.Value.{literal_value, valuation}
 
 unfoldable pub error_of : Circuit → (state reading control : ℕ) → Bool
 error_of c s r k = literal_value (valuation c s r k) c.output

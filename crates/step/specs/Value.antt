@@ -1,7 +1,7 @@
 -- The value of each variable and literal in a step (01, "The file", rules 3 and 4; "The game"): bit k of the state is latch k in line
 -- order, bit k of the reading the k-th uncontrollable input, bit k of the control the k-th controllable one. Bits above a count aren't
 -- read. Assumes nothing.
-use Rattle.std.specs.Prelude.{ℕ, ◌/◌, Bool, true, false, cond, not, ◌&&◌, List, [], ◌∷◌, eqb}
+use Rattle.std.specs.Prelude.{ℕ, ◌/◌, Bool, false, cond, not, ◌&&◌, List, [], ◌∷◌, eqb}
 use Rattle.bits.specs.Bit.{odd}
 use Rattle.circuit.specs.Circuit.{Circuit, Input, Latch, Gate}
 use Rattle.circuit.specs.Literal.{variable, inverted, constant}

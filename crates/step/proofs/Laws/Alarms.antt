@@ -1,11 +1,10 @@
 -- Alarms: a circuit that an easy mistake in the definitions would get wrong (01, "Easy to get wrong"), computed. Assumes nothing.
-use Prim.Native.Nat.{ℕ}
-use mathlib.Core.Bool.{Bool, true, false}
-use mathlib.Core.List.{List, [], ◌∷◌}
+use mathlib.Core.Bool.{true, false}
+use mathlib.Core.List.{[], ◌∷◌}
 use mathlib.Core.Path.{◌≡◌, refl}
 use Rattle.bits.specs.Bit.{odd, one_if}
 use Rattle.bits.specs.Digits.{sum}
-use Rattle.circuit.specs.Circuit.{Circuit, Input, Latch, Gate}
+use Rattle.circuit.specs.Circuit.{Circuit}
 use Rattle.circuit.specs.Literal.{variable, inverted, constant}
 use Rattle.step.specs.Step.{step, error_of, next_of}
 use Rattle.step.specs.Value.{literal_value, put, with_inputs, with_latches, with_gates, valuation}

@@ -1,5 +1,5 @@
 -- `step::next_state` meets its contract: the bits from i on add up to the state, and i counts down to 0.
-use Prim.Native.Nat.{◌-◌, min}
+use Prim.Native.Nat.{min}
 use lib.ListN.{length}
 use Rattle.circuit.specs.Limits.{base}
 use Rattle.step.specs.Truths.{truths}

@@ -1,5 +1,4 @@
 -- `step::put_gates` meets its contract: what is left to put, over what the bytes hold, gives the whole; each turn puts one gate.
-use Prim.Native.Nat.{◌-◌}
 use native.Mathlib.Omega.{arith}
 use mathlib.Core.Path.{refl, sym, ◌∙◌}
 use lib.ListN.{length}

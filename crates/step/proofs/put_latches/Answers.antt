@@ -1,5 +1,5 @@
 -- `step::put_latches` meets its contract: what is left to put, over what the bytes hold, gives the whole; each turn puts one latch.
-use Prim.Native.Nat.{◌-◌, min}
+use Prim.Native.Nat.{min}
 use native.Mathlib.Omega.{arith}
 use mathlib.Core.Path.{refl, sym, ◌∙◌}
 use lib.ListN.{length}
