@@ -1,5 +1,5 @@
 -- The game of a circuit (01, "The game"): 2^L states, 2^U readings, 2^C controls, and the circuit's step. Assumes nothing.
-use Rattle.std.specs.Prelude.{ℕ, ◌^◌, Bool}
+use Rattle.std.specs.Prelude.{◌^◌, Bool}
 use Rattle.circuit.specs.Circuit.{Circuit, latch_count, uncontrollable_count, controllable_count}
 use Rattle.circuit.specs.Reset.{is_reset}
 use Rattle.step.specs.Step.{step}

@@ -1,6 +1,6 @@
 -- Keeps (01, "The game"): this control, at this state and reading, gives error 0 and a next state in the set. The only definition of
 -- the game that looks at a step; region, reply, rank, attack and check are stated by it. Assumes nothing.
-use Rattle.std.specs.Prelude.{ℕ, ◌<◌, Bool, true, false, not, ◌&&◌, ◌≡◌}
+use Rattle.std.specs.Prelude.{ℕ, Bool, false, not, ◌&&◌, ◌≡◌}
 use Rattle.below.specs.Least.{any, every}
 use Rattle.game.specs.Game.{Game}
 

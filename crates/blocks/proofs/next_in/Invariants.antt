@@ -1,5 +1,5 @@
 -- `blocks::next_in` meets its contract: the bits from k on add up to the state, and k counts down to 0.
-use Prim.Native.Nat.{◌-◌, min}
+use Prim.Native.Nat.{min}
 use lib.ListN.{length}
 use Rattle.circuit.specs.Limits.{base}
 use Rattle.net.specs.Net.{net_nexts}

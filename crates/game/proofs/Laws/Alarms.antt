@@ -1,6 +1,5 @@
 -- Alarms: two games that an easy mistake in the definitions would get wrong (01, "Easy to get wrong"), computed. Assumes nothing.
-use Prim.Native.Nat.{ℕ}
-use mathlib.Core.Bool.{Bool, true, false, not}
+use mathlib.Core.Bool.{true, false, not}
 use mathlib.Core.Path.{◌≡◌, refl}
 use lib.Dec.{eqb}
 use Rattle.below.specs.Least.{least, any, every}

@@ -2,8 +2,8 @@
 -- none, the states that it ranks lie outside the region. Assumes nothing.
 use Prim.Native.Nat.{ℕ, zero, suc, ◌-◌, ◌<◌, ◌≤◌}
 use native.Mathlib.Omega.{arith}
-use mathlib.Core.Bool.{Bool, true, false, cond, not, ◌&&◌, true≢false}
-use mathlib.Core.Path.{◌≡◌, refl, sym, ap, ◌∙◌, subst}
+use mathlib.Core.Bool.{Bool, true, false, not, ◌&&◌}
+use mathlib.Core.Path.{◌≡◌, refl, sym, ap, ◌∙◌}
 use lib.Dec.{ltb}
 use borrow.Author.Tests.{ltb-true, lt-ltb, le-ltb, not-true, not-false}
 use Rattle.below.specs.Least.{least, any}
@@ -11,12 +11,12 @@ use Rattle.below.proofs.Laws.Least.{any-least, any_holds, least-before}
 use Rattle.bits.proofs.Laws.Bytes.{both_true}
 use Rattle.game.specs.Attack.{attack, attack_broken}
 use Rattle.game.specs.Game.{Game, Proper}
-use Rattle.game.specs.Keeps.{Keeps, keeps, answered}
-use Rattle.game.specs.Rank.{not_ranked, defeats, defeated, rank, in_region, AreRanks}
+use Rattle.game.specs.Keeps.{Keeps, keeps}
+use Rattle.game.specs.Rank.{not_ranked, defeats, rank, in_region}
 use Rattle.game.specs.Region.{Closed}
-use Rattle.game.proofs.Laws.Keeps.{keeps_true, true_keeps, answers, unanswered, defeated-by}
-use Rattle.game.proofs.Laws.Rank.{ranks_are_lem, ranked_is, is_ranked}
-use Rattle.game.proofs.Laws.Region.{region_closed, region_rank, rank_region, outside_ranked}
+use Rattle.game.proofs.Laws.Keeps.{unanswered, defeated-by}
+use Rattle.game.proofs.Laws.Rank.{ranks_are_lem, ranked_is}
+use Rattle.game.proofs.Laws.Region.{region_closed, region_rank, outside_ranked}
 
 -- an attack that breaks no rule, of a state that is ranked: a reading under which no control leaves the states of smaller rank
 pub unbroken_attack : (g : Game) (ranks attacks : ℕ → ℕ) (s : ℕ) → attack_broken g ranks attacks s ≡ false → 0 < ranks s → (attacks s < g.readings)

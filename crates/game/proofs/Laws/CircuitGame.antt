@@ -2,7 +2,7 @@
 -- low bits do. Assumes nothing.
 use Prim.Native.Nat.{ℕ, ◌%◌, ◌^◌, ◌<◌}
 use native.Mathlib.Nat.{mod-lt, mod-eq_of_lt}
-use mathlib.Core.Path.{◌≡◌, sym, ap, ◌∙◌}
+use mathlib.Core.Path.{sym, ap, ◌∙◌}
 use lib.Pow.{pow_pos}
 use Rattle.circuit.specs.Circuit.{Circuit, latch_count, uncontrollable_count, controllable_count}
 use Rattle.step.specs.Step.{step}

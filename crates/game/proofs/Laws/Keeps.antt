@@ -1,14 +1,14 @@
 -- The test of keeping says what the statement says; so do answered, safe, defeats and defeated. Assumes nothing.
 use Prim.Native.Nat.{ℕ, ◌<◌}
 use mathlib.Core.Bool.{Bool, true, false, not, ◌&&◌}
-use mathlib.Core.Path.{◌≡◌, refl, sym, ap, ap₂, ◌∙◌}
-use borrow.Author.Tests.{not-true, not-false}
+use mathlib.Core.Path.{◌≡◌, refl, ap, ap₂}
+use borrow.Author.Tests.{not-true}
 use Rattle.below.specs.Least.{least, any, every}
-use Rattle.below.proofs.Laws.Least.{any_of, any-least, any_holds, any_none, any_same, every_at, every_of, every_same}
+use Rattle.below.proofs.Laws.Least.{any_of, any-least, any_holds, any_none, any_same, every_at, every_of}
 use Rattle.bits.proofs.Laws.Bytes.{both_true}
 use Rattle.game.specs.Game.{Game}
 use Rattle.game.specs.Keeps.{Keeps, keeps, answered, safe}
-use Rattle.game.specs.Rank.{defeats, defeated, not_ranked}
+use Rattle.game.specs.Rank.{defeats, defeated}
 
 module _ (g : Game) (set : ℕ → Bool) (s r k : ℕ) where
   pub keeps_true : keeps g set s r k ≡ true → Keeps g (λ t. set t ≡ true) s r k

@@ -5,11 +5,11 @@ use native.Mathlib.Decide.{dec_lt}
 use mathlib.Core.Bool.{Bool, true, false, not, ◌&&◌, true≢false}
 use mathlib.Core.Path.{◌≡◌, refl, sym, ap, ◌∙◌}
 use lib.Dec.{leb, ltb}
-use borrow.Author.Tests.{leb-true, leb-false, le-leb, lt-leb, lt-ltb, le-ltb, not-false}
+use borrow.Author.Tests.{leb-true, le-leb, lt-leb, lt-ltb, le-ltb, not-false}
 use Rattle.bits.proofs.Laws.Bytes.{both_true}
 use Rattle.game.specs.Game.{Game, Proper}
-use Rattle.game.specs.Rank.{not_ranked, defeats, defeated, ranks_after, rank, in_region, AreRanks}
-use Rattle.game.proofs.Laws.Region.{region_undefeated, outside_ranked}
+use Rattle.game.specs.Rank.{not_ranked, defeated, ranks_after, rank, AreRanks}
+use Rattle.game.proofs.Laws.Region.{region_undefeated}
 use Rattle.game.proofs.Laws.Rounds.{rank_most, Later, stays, none, after, later_than, born, undefeated, defeated_same}
 
 -- of rank 1 to k, and not

@@ -1,12 +1,12 @@
 -- The replies: in the region each is the least control that keeps; they break no rule of a certificate; and whoever made a table that
 -- breaks none, its set lies inside the region. Assumes nothing.
 use Prim.Native.Nat.{ℕ, ◌<◌}
-use mathlib.Core.Bool.{Bool, true, false, cond, not, ◌&&◌, true≢false}
-use mathlib.Core.Path.{◌≡◌, refl, sym, ap, ap₂, ◌∙◌}
+use mathlib.Core.Bool.{Bool, true, false, not, ◌&&◌}
+use mathlib.Core.Path.{◌≡◌, refl, sym, ap, ◌∙◌}
 use lib.Dec.{ltb}
 use borrow.Author.Tests.{ltb-true, lt-ltb, not-false}
 use Rattle.below.specs.Least.{least}
-use Rattle.below.proofs.Laws.Least.{least-is, least-before, any-least, any_holds}
+use Rattle.below.proofs.Laws.Least.{least-before, any-least, any_holds}
 use Rattle.bits.proofs.Laws.Bytes.{both_true}
 use Rattle.game.specs.Game.{Game, Proper}
 use Rattle.game.specs.Keeps.{Keeps, keeps, answered}

@@ -3,16 +3,16 @@
 use Prim.Native.Nat.{ℕ, zero, suc, ◌+◌, ◌-◌, ◌<◌, ◌≤◌}
 use native.Mathlib.Omega.{arith}
 use native.Mathlib.Nat.{zero-add, suc-add, le_refl}
-use mathlib.Core.Bool.{Bool, true, false, cond, not, ◌&&◌, true≢false}
+use mathlib.Core.Bool.{Bool, true, false, not, ◌&&◌, true≢false}
 use mathlib.Core.Logic.{◌⊎◌, inl, inr}
-use mathlib.Core.Path.{◌≡◌, refl, sym, ap, ap₂, ◌∙◌, subst}
+use mathlib.Core.Path.{◌≡◌, refl, sym, ap, ◌∙◌, subst}
 use lib.Dec.{leb, ltb, eqb}
-use borrow.Author.Tests.{ltb-true, ltb-false, lt-ltb, le-ltb, le-leb, lt-leb, eqb-true, eqb-false}
+use borrow.Author.Tests.{ltb-true, ltb-false, lt-ltb, le-ltb, le-leb, eqb-true, eqb-false}
 use Rattle.below.specs.Least.{every}
-use Rattle.below.proofs.Laws.Count.{count, count_most, count_full, count_grows}
+use Rattle.below.proofs.Laws.Count.{count, count_full, count_grows}
 use Rattle.below.proofs.Laws.Least.{every_at, every-fails, every_same}
 use Rattle.game.specs.Game.{Game, Proper}
-use Rattle.game.specs.Keeps.{answered, safe}
+use Rattle.game.specs.Keeps.{safe}
 use Rattle.game.specs.Rank.{not_ranked, defeated, round, ranks_after, rank}
 use Rattle.game.proofs.Laws.Keeps.{answered_same}
 

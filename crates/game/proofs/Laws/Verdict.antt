@@ -1,7 +1,7 @@
 -- Realizable exactly if some closed set holds every reset state. Assumes nothing.
 use Prim.Native.Nat.{ℕ, ◌<◌}
 use mathlib.Core.Bool.{Bool, true, false, not, ◌||◌}
-use mathlib.Core.Path.{◌≡◌, refl, sym, ap, ◌∙◌}
+use mathlib.Core.Path.{◌≡◌, refl}
 use Rattle.below.proofs.Laws.Least.{every_at, every_of}
 use Rattle.game.specs.Game.{Game, Proper}
 use Rattle.game.specs.Rank.{in_region}

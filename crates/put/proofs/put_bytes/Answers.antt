@@ -6,7 +6,7 @@ use mathlib.Core.Path.{refl, sym, ap, ◌∙◌}
 use lib.ListN.{length}
 use borrow.Rule.Slice.PartMut.{put_mid}
 use Rattle.bits.proofs.Laws.Wrote.{put-fits, put_refused}
-use Rattle.put.proofs.Laws.Part.{put-part}
+use Rattle.put.proofs.Laws.Part.{put_whole}
 use Rattle.put.proofs.put_bytes.Goals as goal
 
 pub returns-then-at-out : goal.returns-then-at-out
@@ -15,7 +15,7 @@ returns-then-at-out c =
     record {
       value = refl;
       out_after = ap (put_mid a.at (a.at + length a.text.now - a.at) a.out.now) c.copy_from_slice.ensures.after
-          ∙ put-part a.out.now a.at a.text.now (omega arith) _ (omega arith)
+          ∙ put_whole a.out.now a.at a.text.now (omega arith) _ (omega arith)
           ∙ sym (put-fits a.out.now a.at a.text.now (omega arith));
     }
 

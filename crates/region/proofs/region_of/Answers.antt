@@ -1,5 +1,5 @@
 -- `region::region_of` meets its contract: what is passed is as the bytes of the states say.
-use Prim.Native.Nat.{ℕ, ◌-◌, ◌/◌, ◌^◌}
+use Prim.Native.Nat.{ℕ, ◌/◌, ◌^◌}
 use native.Mathlib.Omega.{arith}
 use mathlib.Core.Path.{ap, ◌∙◌}
 use lib.ListN.{length}

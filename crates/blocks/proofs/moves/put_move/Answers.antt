@@ -1,7 +1,6 @@
 -- `blocks::moves::put_move` meets its contract: each turn puts one variable.
 use borrow.Author.Rules.{rules}
 use native.Mathlib.Omega.{arith}
-use Prim.Native.Nat.{◌-◌}
 use Rattle.blocks.proofs.Laws.Putting.{moved_start, moved_next, moved_end}
 use Rattle.blocks.proofs.moves.put_move.Goals as goal
 

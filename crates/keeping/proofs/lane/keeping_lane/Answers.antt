@@ -1,5 +1,4 @@
 -- `keeping::lane::keeping_lane` meets its contract: none of the lanes passed keeps.
-use Prim.Native.Nat.{◌-◌}
 use native.Mathlib.Omega.{arith}
 use mathlib.Core.Bool.{true, false}
 use mathlib.Core.Path.{◌≡◌, sym, ap, ◌∙◌}

@@ -1,5 +1,5 @@
 -- `keeping::lane::lane_number` meets its contract: the bits from k on add up to the number, and k counts down to 0.
-use Prim.Native.Nat.{◌-◌, min}
+use Prim.Native.Nat.{min}
 use lib.ListN.{length}
 use Rattle.circuit.specs.Limits.{base}
 use Rattle.keeping.proofs.Laws.InLane.{lane_bit}

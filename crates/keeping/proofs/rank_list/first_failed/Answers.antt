@@ -1,5 +1,4 @@
 -- `keeping::rank_list::first_failed` meets its contract: no place passed failed.
-use Prim.Native.Nat.{◌-◌}
 use native.Mathlib.Omega.{arith}
 use mathlib.Core.Path.{sym, ◌∙◌}
 use Rattle.keeping.proofs.Laws.KeptControls.{none_yet, fails-here, none_here, none_fails}

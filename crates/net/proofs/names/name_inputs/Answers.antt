@@ -1,6 +1,5 @@
 -- `net::names::name_inputs` meets its contract: what is left to name over the names so far gives the whole; each turn names one input.
 use borrow.Author.Rules.{rules}
-use Prim.Native.Nat.{◌-◌}
 use native.Mathlib.Omega.{arith}
 use mathlib.Core.Path.{refl, sym, ◌∙◌}
 use Rattle.net.specs.InOrder.{variables}

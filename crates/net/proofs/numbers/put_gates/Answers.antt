@@ -1,6 +1,6 @@
 -- `net::numbers::put_gates` meets its contract: what is left to put and to name gives the whole; each turn does so with one gate.
 use borrow.Author.Rules.{rules}
-use Prim.Native.Nat.{◌+◌, ◌-◌}
+use Prim.Native.Nat.{◌+◌}
 use native.Mathlib.Omega.{arith}
 use mathlib.Core.Path.{ap, ◌∙◌}
 use lib.ListN.{length-set}

@@ -1,5 +1,4 @@
 -- `net::numbers::put_nexts` meets its contract: what is left to put gives the whole; each turn puts one literal.
-use Prim.Native.Nat.{◌-◌}
 use native.Mathlib.Omega.{arith}
 use mathlib.Core.Path.{ap, ◌∙◌}
 use Rattle.net.specs.Inner.NamesIn.{names_in}

@@ -1,5 +1,4 @@
 -- `solver::look::keeping_from` meets its contract: no move passed keeps; a block is searched lane by lane.
-use Prim.Native.Nat.{◌-◌}
 use native.Mathlib.Omega.{arith}
 use Rattle.below.proofs.Laws.LeastFrom.{searched_from, searched_end}
 use Rattle.solver.proofs.Laws.Search.{turn_of, lane_within, lane-found, lane_lead, lane-later, lane_forward}

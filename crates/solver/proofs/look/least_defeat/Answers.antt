@@ -1,5 +1,5 @@
 -- `solver::look::least_defeat` meets its contract: no reading passed defeats, and what was found at each place is kept.
-use Prim.Native.Nat.{◌+◌, ◌-◌, ◌<◌}
+use Prim.Native.Nat.{◌+◌, ◌<◌}
 use native.Mathlib.Omega.{arith}
 use mathlib.Core.Path.{sym}
 use lib.Seq.{length-take-le}

@@ -1,5 +1,4 @@
 -- `solver::planes::put_planes` meets its contract: the words passed are those of the block, the others as before.
-use Prim.Native.Nat.{◌-◌}
 use native.Mathlib.Omega.{arith}
 use Rattle.below.proofs.Laws.Filled.{filled_end}
 use Rattle.solver.specs.Inner.Planes.{plane_word, put_slot}

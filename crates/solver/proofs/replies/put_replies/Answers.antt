@@ -1,5 +1,5 @@
 -- `solver::replies::put_replies` meets its contract: what is passed is as the search at each place says.
-use Prim.Native.Nat.{ℕ, ◌*◌, ◌-◌, ◌^◌}
+use Prim.Native.Nat.{ℕ, ◌*◌, ◌^◌}
 use native.Mathlib.Omega.{arith}
 use mathlib.Core.Path.{ap, ◌∙◌}
 use lib.ListN.{length}

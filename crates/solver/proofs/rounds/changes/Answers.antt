@@ -1,5 +1,4 @@
 -- `solver::rounds::changes` meets its contract: none of the states passed has another rank.
-use Prim.Native.Nat.{◌-◌}
 use native.Mathlib.Omega.{arith}
 use mathlib.Core.Bool.{not}
 use mathlib.Core.Path.{sym, ap}

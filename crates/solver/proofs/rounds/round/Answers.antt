@@ -1,5 +1,5 @@
 -- `solver::rounds::round` meets its contract: what is passed is as the round says, the rest as before, and what is kept goes on.
-use Prim.Native.Nat.{ℕ, ◌-◌, ◌^◌}
+use Prim.Native.Nat.{ℕ, ◌^◌}
 use native.Mathlib.Omega.{arith}
 use mathlib.Core.Path.{ap, ◌∙◌}
 use Rattle.below.specs.Table.{table}

@@ -1,6 +1,6 @@
 -- `solver::rounds::rounds` meets its contract: the list is that after k rounds; where a round changes nothing none after it does, and as many
 -- rounds as there are states suffice.
-use Prim.Native.Nat.{ℕ, ◌+◌, ◌-◌, ◌^◌, ◌<◌, ◌≤◌}
+use Prim.Native.Nat.{ℕ, ◌+◌, ◌^◌, ◌<◌, ◌≤◌}
 use native.Mathlib.Omega.{arith}
 use mathlib.Core.Bool.{not}
 use mathlib.Core.Path.{◌≡◌, sym, ap, ◌∙◌}
