@@ -19,11 +19,7 @@ fn main(rt: HostRuntime) {
             return;
         }
     }
-    desk::tell(
-        &rt,
-        b"usage",
-        b"certify CIRCUIT CERTIFICATE [packed]",
-    );
+    desk::tell(&rt, b"usage", b"certify CIRCUIT CERTIFICATE [packed]");
 }
 
 // Whether the third argument is the word `packed`.

@@ -13,9 +13,8 @@ ghost use Rattle.circuit.specs.Limits.{base};
 use circuit::{Circuit, Refusal};
 use records::HEAD;
 use std::env::{Env, FillError};
-use std::fs;
-use std::io;
 use std::io::Read;
+use std::{fs, io};
 use trouble::{fail, missing_argument, path, print_line};
 
 // The longest certificate that is written: three records, with a file, a region and replies at their limits.
@@ -33,16 +32,16 @@ pub struct Filled {
 
 // Zeros, one more than a file may have: a longer one is known to be too long without being read to its end.
 pub fn blank() -> [u8; Circuit::FILE + 1]
-    ensures file_value { base.file + 1 ≡ length result }
-    ensures value { result ≡ replicate (base.file + 1) 0 }
+    ensures len { base.file + 1 ≡ length result }
+    ensures zeros { result ≡ replicate (base.file + 1) 0 }
 {
     [0; Circuit::FILE + 1]
 }
 
 // Zeros, as many as the longest certificate has bytes (writer, `longest_certificate`).
 pub fn blank_certificate() -> [u8; CERTIFICATE]
-    ensures value { 49298 ≡ length result }
-    ensures value_2 { result ≡ replicate 49298 0 }
+    ensures len { 49298 ≡ length result }
+    ensures zeros { result ≡ replicate 49298 0 }
 {
     [0; CERTIFICATE]
 }
@@ -121,12 +120,7 @@ fn open(rt: &HostRuntime, name: &[u8]) -> io::Result<fs::File> {
 }
 
 // Fills the space with what an open file or another reader gives, as far as it goes.
-pub fn read_open<R: Read>(
-    rt: &HostRuntime,
-    reader: &mut R,
-    name: &[u8],
-    space: &mut [u8],
-) -> Filled
+pub fn read_open<R: Read>(rt: &HostRuntime, reader: &mut R, name: &[u8], space: &mut [u8]) -> Filled
     ensures { IsPrefixLen result.«bytes» space.new }
 {
     let (n, ended) = fill(reader, space);

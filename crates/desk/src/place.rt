@@ -6,10 +6,9 @@ use crate::trouble::{fail, path};
 use crate::{CERTIFICATE, NAME, blank_certificate, fill, front, tell};
 use bits::bytes::byte_at;
 use records::Shape;
-use std::fs;
 use std::fs::{File, OpenOptions};
-use std::io;
 use std::io::{ErrorKind, Seek, SeekFrom};
+use std::{fs, io};
 
 // So many links are followed, as the system does.
 const LINKS: usize = 40;
@@ -109,8 +108,19 @@ fn leads(rt: &HostRuntime, name: &[u8], to: &mut [u8]) -> io::Result<usize>
             Ok(front(to, n))
         }
         Err(error) if error.raw_os_error().is_some() => Ok(0),
-        Err(error) => Err(error),
+        Err(error) => Err(unread(error)),
     }
+}
+
+// Why std doesn't answer where a link leads: a name that isn't text, or a lack of memory.
+fn unread(error: io::Error) -> io::Error {
+    if error.kind() == ErrorKind::OutOfMemory {
+        return error;
+    }
+    io::Error::new(
+        ErrorKind::InvalidFilename,
+        "leads to a name that isn't UTF-8, so it can't be followed",
+    )
 }
 
 // Where the name that a link leads to begins: at the front, or behind the link's folder.

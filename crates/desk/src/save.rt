@@ -2,11 +2,9 @@
 // half written, and where there is trouble it stays as it was.
 use crate::trouble::{fail, path};
 use crate::{NAME, argument, front, place};
-use std::fs;
 use std::fs::{File, OpenOptions};
-use std::io;
 use std::io::{ErrorKind, Write};
-use std::process;
+use std::{fs, io, process};
 
 // Saves a certificate's bytes as the file that an argument names, and answers whether they are saved. Nothing may stand there but a
 // certificate.

@@ -3,9 +3,8 @@ ghost use Rattle.std.specs.Prelude.{◌≤◌};
 
 use crate::NAME;
 use std::env::FillError;
-use std::io;
 use std::io::{ErrorKind, Write};
-use std::str;
+use std::{io, str};
 
 // Two errors, as the system numbers them: an argument that isn't there, and one or a name that is too long.
 const INVALID: i32 = 22;
