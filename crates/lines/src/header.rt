@@ -5,7 +5,7 @@ use fields::name::starts_with;
 use fields::row::{Row, row_at};
 
 // M and how many inputs, latches, outputs and gates there are.
-#[derive(Drop)]
+#[derive(Clone, Copy)]
 pub struct Header {
     pub largest: u32,
     pub inputs: u32,

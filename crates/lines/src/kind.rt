@@ -5,7 +5,7 @@ ghost use Rattle.lines.specs.Inner.Kinds.{form_of, kind_at};
 
 use crate::header::Header;
 
-#[derive(Drop)]
+#[derive(Clone, Copy)]
 pub enum Kind {
     Input,
     Latch,

@@ -16,7 +16,7 @@ pub fn put_bytes(out: &mut [u8], at: usize, text: &[u8]) -> usize
     let n = text.len();
     if n <= out.len() {
         if at <= out.len() - n {
-            bytes::copy(text, &mut out[at..]);
+            out[at..at + n].copy_from_slice(text);
         }
     }
     n

@@ -1,6 +1,6 @@
 -- The two shapes of a certificate (01, "The certificate"; 02, T-07): kinds 1, 2 and a reply record of kind 3 or 5, or kinds 1, 4, back to
 -- back, and nothing follows. The kinds of reply record that are accepted are an argument. Assumes nothing.
-use Rattle.std.specs.Prelude.{ℕ, Bool, true, false, cond, ◌&&◌, List, [], ◌∷◌, eqb, length}
+use Rattle.std.specs.Prelude.{ℕ, cond, ◌&&◌, List, [], ◌∷◌, eqb, length}
 use Rattle.std.proofs.Math.Option.{Option, none, some}
 use Rattle.below.specs.Among.{member}
 use Rattle.records.specs.Record.{Split, whole, cut, split, circuit_kind, region_kind, reply_kind, attack_kind, packed_kind}

@@ -115,13 +115,13 @@ moved_next block n v w before words after m h long e p =
     record {
       within = omega arith;
       long = long ∙ m.long;
-      put_so = λ bits j f g. p j g ∙ ap (put_both v (lane w j)) (m.put-so bits j f g) ∙ first_more v (lane w j) (with_move bits (move_in block j))
+      put_so = λ bits j f g. p j g ∙ ap (put_both v (lane w j)) (m.put_so bits j f g) ∙ first_more v (lane w j) (with_move bits (move_in block j))
           (lits_in before j) (e bits j (omega arith) g);
     }
 
 pub moved_end : (block n v : ℕ) (before words : List ℕ) → Moved block n v before words → n ≤ v → (bits j : ℕ) → n ≤ bits + 1 → j < width
     → lits_in words j ≡ put_first n (with_move bits (move_in block j)) (lits_in before j)
-moved_end block n v before words m h bits j f g = m.put-so bits j f g ∙ ap (λ (x : ℕ). put_first x (with_move bits (move_in block j)) (lits_in before j))
+moved_end block n v before words m h bits j f g = m.put_so bits j f g ∙ ap (λ (x : ℕ). put_first x (with_move bits (move_in block j)) (lits_in before j))
     {x = v} {y = n} (omega (arith, m.within))
 
 -- gates: no more than one number left puts nothing

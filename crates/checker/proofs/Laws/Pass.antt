@@ -44,10 +44,10 @@ pub tables_pass : (c : Circuit) (u t : Tables) → tables_checked c u ≡ taken 
 unfolding tables_checked
 tables_pass c (replies circuit region kind table) t e =
     let fine = fine_judged _ _ _ (broken_reply c region kind table) (replies circuit region kind table) t e in
-    (fine.same, record { sized = fine.sized; reset = fine.reset-is; rule = fine.rule })
+    (fine.same, record { sized = fine.sized; reset = fine.reset_is; rule = fine.rule })
 tables_pass c (attacks circuit table) t e =
     let fine = fine_judged _ _ _ (broken_attack c table) (attacks circuit table) t e in
-    (fine.same, record { sized = fine.sized; reset = fine.reset-is; rule = fine.rule })
+    (fine.same, record { sized = fine.sized; reset = fine.reset_is; rule = fine.rule })
 
 -- and back: no test refuses tables that pass
 pub tables_taken : (c : Circuit) (t : Tables) → TablesPass c t → tables_checked c t ≡ taken t

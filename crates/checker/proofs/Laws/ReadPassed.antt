@@ -141,7 +141,7 @@ module _ (file certificate : List ℕ) (c : Circuit) (read : circuit_in file ≡
   pub replies_took :
       (region table kind L U C : ℕ) → answer_of file certificate ≡ taken (of_replies region table kind L U C) → RepliesTook region table kind L U C
   unfolding starts_of shape_of
-  replies_took region table kind L U C e = let w = took (of_replies region table kind L U C) e in by w.tables w.checks w.starts-are
+  replies_took region table kind L U C e = let w = took (of_replies region table kind L U C) e in by w.tables w.checks w.starts_are
     where
       lies :
           (circuit states bytes : List ℕ) → check_of file certificate ≡ taken (replies circuit states kind bytes)
@@ -184,7 +184,7 @@ module _ (file certificate : List ℕ) (c : Circuit) (read : circuit_in file ≡
 
   pub attacks_took : (table L U : ℕ) → answer_of file certificate ≡ taken (of_attacks table L U) → AttacksTook table L U
   unfolding starts_of shape_of
-  attacks_took table L U e = let w = took (of_attacks table L U) e in by w.tables w.checks w.starts-are
+  attacks_took table L U e = let w = took (of_attacks table L U) e in by w.tables w.checks w.starts_are
     where
       by : (t : Tables) → check_of file certificate ≡ taken t → starts_of c t ≡ of_attacks table L U → AttacksTook table L U
       by (replies circuit states kind bytes) f g = absurd (let z : ◌≡◌ {A = ℕ} 0 1 = cc in omega arith)
@@ -221,12 +221,12 @@ module _ (file certificate : List ℕ) (c : Circuit) (read : circuit_in file ≡
     -- the region's bits and the replies are those of the records
     pub bits_are : (s : ℕ) → held_at c judged.region_bytes s ≡ holds_state region_on L s
     bits_are s =
-        ap₂ (λ (l : List ℕ) (n : ℕ). holds_state l n s) judged.region-front judged.latches
+        ap₂ (λ (l : List ℕ) (n : ℕ). holds_state l n s) judged.region_front judged.latches
         ∙ region_in_front region_on (length judged.region_bytes) L s (long.0 ∙ ap region_length judged.latches)
 
     pub replies_are_lem : (s r : ℕ) → reply_at c kind judged.table_bytes s r ≡ stored_reply kind replies_on L U C s r
     replies_are_lem s r =
-        (λ i. stored_reply kind (judged.table-front i) (judged.latches i) (judged.readings i) (judged.controls i) s r)
+        (λ i. stored_reply kind (judged.table_front i) (judged.latches i) (judged.readings i) (judged.controls i) s r)
         ∙ stored_in_front replies_on (length judged.table_bytes) L s kind U C r
         (long.1 ∙ λ i. table_length kind (judged.latches i) (judged.readings i) (judged.controls i))
 
@@ -278,12 +278,12 @@ module _ (file certificate : List ℕ) (c : Circuit) (read : circuit_in file ≡
     -- the ranks and attacks are those of the record
     pub ranks_are_lem : (s : ℕ) → rank_at c judged_attacks.table_bytes s ≡ stored_rank attacks_on L s
     ranks_are_lem s =
-        ap₂ (λ (l : List ℕ) (n : ℕ). stored_rank l n s) judged_attacks.table-front judged_attacks.latches
+        ap₂ (λ (l : List ℕ) (n : ℕ). stored_rank l n s) judged_attacks.table_front judged_attacks.latches
         ∙ ranks_in_front attacks_on (length judged_attacks.table_bytes) L s wide
 
     pub attacks_are_lem : (s : ℕ) → attack_at c judged_attacks.table_bytes s ≡ stored_attack attacks_on L s
     attacks_are_lem s =
-        ap₂ (λ (l : List ℕ) (n : ℕ). stored_attack l n s) judged_attacks.table-front judged_attacks.latches
+        ap₂ (λ (l : List ℕ) (n : ℕ). stored_attack l n s) judged_attacks.table_front judged_attacks.latches
         ∙ attacks_in_front attacks_on (length judged_attacks.table_bytes) L s wide
 
     -- against every strategy of controls the error is 1 no later than the step given by the rank that is read of state 0

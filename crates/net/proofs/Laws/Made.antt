@@ -214,22 +214,22 @@ pub record Counts (v : Value) (inputs latches gates controls : ℕ) : Type 0 whe
 
 module _ (v : Value) (inputs latches gates controls : ℕ) (k : Counts v inputs latches gates controls) where
   i_room : inputs ≤ length v.input
-  i_room = omega (arith, k.inputs_read, k.input-long)
+  i_room = omega (arith, k.inputs_read, k.input_long)
 
   l_room : latches ≤ length v.latch
-  l_room = omega (arith, k.latches-read, k.latch-long)
+  l_room = omega (arith, k.latches_read, k.latch_long)
 
   g_room : gates ≤ length v.gate
-  g_room = omega (arith, k.gates-read, k.gate-long)
+  g_room = omega (arith, k.gates_read, k.gate_long)
 
   pub i_few : inputs ≤ base.inputs
   i_few = omega (arith, k.inputs_read)
 
   pub l_few : latches ≤ base.latches
-  l_few = omega (arith, k.latches-read)
+  l_few = omega (arith, k.latches_read)
 
   pub g_few : gates ≤ base.variable
-  g_few = omega (arith, k.gates-read)
+  g_few = omega (arith, k.gates_read)
 
   made : Circuit
   made = lent v.largest (take inputs v.input) v.controllable (take latches v.latch) v.next v.output (take gates v.gate) v.left
@@ -239,37 +239,37 @@ module _ (v : Value) (inputs latches gates controls : ℕ) (k : Counts v inputs 
   unfolding made meant
   is-meant =
       ap net_of (lent-counted v.largest v.input v.controllable v.latch v.next v.output v.gate v.left v.right v.inputs
-      v.latches v.gates inputs latches gates (k.inputs_read ∙ ap (min v.inputs) (sym k.input-long)) (k.latches-read
-      ∙ ap (min v.latches) (sym k.latch-long)) (k.gates-read ∙ ap (min v.gates) (sym k.gate-long)))
+      v.latches v.gates inputs latches gates (k.inputs_read ∙ ap (min v.inputs) (sym k.input_long)) (k.latches_read
+      ∙ ap (min v.latches) (sym k.latch_long)) (k.gates_read ∙ ap (min v.gates) (sym k.gate_long)))
       ∙ sym (lines-not_read (take v.gates v.lines) (lent v.largest (take v.inputs v.input) v.controllable
       (take v.latches v.latch) v.next v.output (take v.gates v.gate) v.left v.right))
 
   pub controls_few : controls ≤ inputs
   controls_few = controls_most v.largest v.input v.controllable v.latch v.next v.output v.gate v.left v.right inputs latches
-      gates controls i_room l_room g_room i_few l_few g_few k.controls-read
+      gates controls i_room l_room g_room i_few l_few g_few k.controls_read
 
   module _ (n0 n1 n2 : Names) (e0 : n0 ≡ (λ u. 0)) (e1 : n1 ≡ name_inputs (inputs_of (take inputs v.input) v.controllable) 1 (1 + controls) n0)
       (e2 : n2 ≡ name_latches (latches_of (take latches v.latch) v.next) (1 + inputs) n1) where
     first-is : n2 ≡ first_names made
     unfolding made
     first-is = first_are v.largest v.input v.controllable v.latch v.next v.output v.gate v.left v.right inputs latches gates
-        controls i_room l_room g_room i_few l_few g_few k.controls-read n0 n1 n2 e0 e1 e2
+        controls i_room l_room g_room i_few l_few g_few k.controls_read n0 n1 n2 e0 e1 e2
 
     pub first_within : Below (1 + inputs + latches) n2
     unfolding made
     first_within = first_under v.largest v.input v.controllable v.latch v.next v.output v.gate v.left v.right inputs latches
-        gates controls i_room l_room g_room i_few l_few g_few k.controls-read n2 first-is
+        gates controls i_room l_room g_room i_few l_few g_few k.controls_read n2 first-is
 
     module _ (n3 : Names) (e3 : n3 ≡ name_gates (gates_of (take gates v.gate) v.left v.right) (1 + inputs + latches) n2) where
       all_is : n3 ≡ all_names made
       unfolding made
       all_is = all_are v.largest v.input v.controllable v.latch v.next v.output v.gate v.left v.right inputs latches gates
-          controls i_room l_room g_room i_few l_few g_few k.controls-read n2 n3 first-is e3
+          controls i_room l_room g_room i_few l_few g_few k.controls_read n2 n3 first-is e3
 
       pub all_within : Below variables n3
       unfolding made
       all_within = all_under v.largest v.input v.controllable v.latch v.next v.output v.gate v.left v.right inputs latches gates
-          controls i_room l_room g_room i_few l_few g_few k.controls-read n3 all_is
+          controls i_room l_room g_room i_few l_few g_few k.controls_read n3 all_is
 
       pub value_made : (m0 m1 m2 m3 : List ℕ) (out : ℕ) → m0 ≡ table (λ i. 0) most
           → m1 ≡ sets m0 (4 + latches) (operands_of (gates_of (take gates v.gate) v.left v.right) (1 + inputs + latches) n2)
@@ -280,8 +280,8 @@ module _ (v : Value) (inputs latches gates controls : ℕ) (k : Counts v inputs 
       value_made m0 m1 m2 m3 out z p1 p2 po p3 =
           record {
             numbers = net_made v.largest v.input v.controllable v.latch v.next v.output v.gate v.left v.right inputs latches
-                gates controls i_room l_room g_room i_few l_few g_few k.controls-read m0 m1 m2 m3 n2 n3 out first-is all_is z p1 p2 po p3
+                gates controls i_room l_room g_room i_few l_few g_few k.controls_read m0 m1 m2 m3 n2 n3 out first-is all_is z p1 p2 po p3
                 ∙ ap (padded most) is-meant;
             length = net_length v.largest v.input v.controllable v.latch v.next v.output v.gate v.left v.right inputs latches
-                gates controls i_room l_room g_room i_few l_few g_few k.controls-read ∙ ap length is-meant;
+                gates controls i_room l_room g_room i_few l_few g_few k.controls_read ∙ ap length is-meant;
           }

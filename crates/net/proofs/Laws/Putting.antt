@@ -78,14 +78,14 @@ module _ (gate left right : List ℕ) (gates : ℕ) (room : gates ≤ length gat
           within = omega arith;
           next = omega (arith, p.next);
           place = omega (arith, p.place);
-          numbers_long = length-set (set numbers at a) (at + 1) b ∙ length-set numbers at a ∙ p.numbers-long;
-          names_long = long ∙ p.names-long;
+          numbers_long = length-set (set numbers at a) (at + 1) b ∙ length-set numbers at a ∙ p.numbers_long;
+          names_long = long ∙ p.names_long;
           below = rw en (name_below (v + 1) (variable (literal_of (get_or gate i 0))) v (names_in names) (below_more v (v + 1) (names_in names) p.below
               (omega arith)) (omega arith));
-          put_left = p.put-left ∙ rw (gate_here i h, operands_of, ← ea, ← eb, en, add-one v, add-one at)
+          put_left = p.put_left ∙ rw (gate_here i h, operands_of, ← ea, ← eb, en, add-one v, add-one at)
               (ap (λ (m : ℕ). sets (set (set numbers at a) (suc at) b) m
               (operands_of (drop (i + 1) gs) (suc v) (name (variable (literal_of (get_or gate i 0))) v (names_in names)))) two);
-          name_left = p.name-left ∙ rw (gate_here i h, name_gates, en, add-one v);
+          name_left = p.name_left ∙ rw (gate_here i h, name_gates, en, add-one v);
         }
       where
         two : suc (suc at) ≡ at + 2
@@ -96,8 +96,8 @@ module _ (gate left right : List ℕ) (gates : ℕ) (room : gates ≤ length gat
         (names_in names ≡ name_gates (gates_of (take gates gate) left right) first (names_in names₀))
     unfolding operands_of name_gates gs
     gates_end v at i numbers names p h = (
-      sym (p.put-left ∙ ap (λ (g : List Gate). sets numbers at (operands_of g v (names_in names))) (gate_none i h)),
-      sym (p.name-left ∙ ap (λ (g : List Gate). name_gates g v (names_in names)) (gate_none i h)),
+      sym (p.put_left ∙ ap (λ (g : List Gate). sets numbers at (operands_of g v (names_in names))) (gate_none i h)),
+      sym (p.name_left ∙ ap (λ (g : List Gate). name_gates g v (names_in names)) (gate_none i h)),
     )
 
 -- next-state literals, one after the other

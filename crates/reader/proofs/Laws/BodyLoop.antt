@@ -132,7 +132,7 @@ unfolding table
 looping_starts h file from marks rows room =
     record {
       defined = [];
-      says = marks_nothing marks room.marks-none;
+      says = marks_nothing marks room.marks_none;
       whole = rw (sub-zero);
       count = omega arith;
       within = room.within;
@@ -203,14 +203,14 @@ module _ (h : Header) (file : List ℕ) (from : Cursor) (marks₀ rows₀ : List
       row_room =
           record {
             inside = omega (arith, room.rows_all, w.rows_all);
-            first = omega (arith, literals.first, room.marks-all, room.marks-few);
-            second = omega (arith, literals.second, room.marks-all, room.marks-few);
-            third = omega (arith, literals.third, room.marks-all, room.marks-few);
+            first = omega (arith, literals.first, room.marks_all, room.marks_few);
+            second = omega (arith, literals.second, room.marks_all, room.marks_few);
+            third = omega (arith, literals.third, room.marks_all, room.marks_few);
           }
 
       marked : variable a < length marks
       unfolding variable
-      marked = omega (arith, literals.first, room.marks-all, w.marks-all)
+      marked = omega (arith, literals.first, room.marks_all, w.marks_all)
 
       rows' : List ℕ
       rows' = with_numbers rows j a b c
@@ -259,6 +259,6 @@ module _ (h : Header) (file : List ℕ) (from : Cursor) (marks₀ rows₀ : List
             count = more;
             within = line_ends_within file here.at end ends w.within;
             line = omega (arith, w.line);
-            marks_all = marks_long k marks a ∙ w.marks-all;
+            marks_all = marks_long k marks a ∙ w.marks_all;
             rows_all = rows_long rows j a b c ∙ w.rows_all;
           })

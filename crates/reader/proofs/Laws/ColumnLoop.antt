@@ -10,7 +10,7 @@ use Rattle.below.specs.Table.{table}
 use Rattle.below.proofs.Laws.Table.{length_table, get_or_table, get_or_table_past, map_table, table_get_or}
 use Rattle.circuit.specs.Stored.{padded}
 use Rattle.reader.specs.Inner.Rows.{cell}
-use Rattle.reader.specs.Inner.ValueOf.{ColumnRoom, OrderedRoom, ordered_column}
+use Rattle.reader.specs.Inner.ValueOf.{ColumnRoom, ordered_column}
 
 -- a list of some numbers and zeros behind them is padded
 pub padded-is : (n : ℕ) (l xs : List ℕ) → length l ≡ n → length xs ≤ n → ((i : ℕ) → i < length xs → get_or l i 0 ≡ get_or xs i 0)

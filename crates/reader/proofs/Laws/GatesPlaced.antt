@@ -35,26 +35,26 @@ module _ (h : Header) (rows marks uses₀ order₀ : List ℕ) (room : GateRoom 
   start = h.inputs + h.latches + 1
 
   pub definer_room : DefinerRoom rows start h.gates order₀
-  definer_room = record { inside = omega (arith, room.inside); few = omega (arith, room.few); none = room.order-none }
+  definer_room = record { inside = omega (arith, room.inside); few = omega (arith, room.few); none = room.order_none }
 
   pub use_room : UseRoom rows start h.gates uses₀
-  use_room = record { inside = omega (arith, room.inside); few = omega (arith, room.few); room = room.uses-all }
+  use_room = record { inside = omega (arith, room.inside); few = omega (arith, room.few); room = room.uses_all }
 
   module _ (definers lent : List ℕ) (w : Definers rows start h.gates definers) (long : length definers ≡ length order₀)
       (filled : lent ≡ table (operand_at rows start definers h.gates) (2 * h.gates)) where
     below : (l : ℕ) → unmarked marks l ≡ false → constant l ≡ false → variable l < length definers
-    below l e c = omega (arith, marked_below marks l e c, room.order-all, long)
+    below l e c = omega (arith, marked_below marks l e c, room.order_all, long)
 
     lent_is : lent ≡ uses_of (row_gates h rows)
-    lent_is = filled ∙ sym (uses_are rows start h.gates definers w (λ i l. below (cell rows (start + i) 1) (room.left-known i l))
-        (λ i l. below (cell rows (start + i) 2) (room.right-known i l)))
+    lent_is = filled ∙ sym (uses_are rows start h.gates definers w (λ i l. below (cell rows (start + i) 1) (room.left_known i l))
+        (λ i l. below (cell rows (start + i) 2) (room.right_known i l)))
 
     -- as many gates as the header says
     many : gates_in lent marks definers ≡ h.gates
     many =
         let size : length lent ≡ 2 * h.gates = ap length filled ∙ length_table (operand_at rows start definers h.gates) (2 * h.gates) in
         let half : length lent / 2 ≡ h.gates = omega arith in
-        omega (arith, half, room.marks-all, room.order-all, long, room.few)
+        omega (arith, half, room.marks_all, room.order_all, long, room.few)
 
     abbrev graph : List ℕ
     graph = uses_of (row_gates h rows)

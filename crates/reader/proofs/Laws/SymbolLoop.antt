@@ -203,8 +203,8 @@ unfolding Named among is_controllable one_if
 symbolling_starts h file from marks flags room =
     record {
       seen = [];
-      named = λ letter position low. rw (room.marks-none (slot_of h letter position));
-      flagged = record { says = λ position low. room.flags-none position; others = λ position high. room.flags-none position };
+      named = λ letter position low. rw (room.marks_none (slot_of h letter position));
+      flagged = record { says = λ position low. room.flags_none position; others = λ position high. room.flags_none position };
       whole = refl;
       marks_all = refl;
       flags_all = refl;
@@ -265,14 +265,14 @@ module _ (h : Header) (file : List ℕ) (from : Cursor) (marks₀ flags₀ : Lis
         (record {
           seen = w.seen ++ (s ∷ []);
           named = subst (λ (k : ℕ). Named h (set marks k 1) (w.seen ++ (s ∷ []))) (ap (slot_of h s.letter) at-it ∙ sym one.marked)
-              (named_more h s low marks w.seen (omega (arith, w.marks-all, room.marks-all)) w.named);
+              (named_more h s low marks w.seen (omega (arith, w.marks_all, room.marks_all)) w.named);
           flagged =
               subst (λ (p : ℕ). Flags h.inputs (cond flag (set flags p 1) flags) (w.seen ++ (s ∷ []))) at-it
-              (flags_more h s low flags w.seen flag (omega (arith, w.flags-all, room.flags-all))
+              (flags_more h s low flags w.seen flag (omega (arith, w.flags_all, room.flags_all))
               (one.flagged ∙ ap (λ (p : ℕ). names input_letter p s && is_controllable_name s.name) (sym at-it)) w.flagged);
           whole = next ∙ rw (e.0, symbol_lines, one.is, add-one here.line);
-          marks_all = length-set marks slot 1 ∙ w.marks-all;
-          flags_all = kept flag ∙ w.flags-all;
+          marks_all = length-set marks slot 1 ∙ w.marks_all;
+          flags_all = kept flag ∙ w.flags_all;
           within = line_ends_within file here.at end ends w.within;
           line = omega (arith, w.line, length-append w.seen (s ∷ []));
           count = omega (arith, w.count, line_positive file here.at more, length-append w.seen (s ∷ []));

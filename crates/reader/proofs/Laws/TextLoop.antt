@@ -1,10 +1,10 @@
 -- All lines behind the header: lines, then the late 7, then 16, then symbols. Assumes nothing.
 use Prim.Native.Nat.{ℕ, ◌+◌, ◌≤◌, ◌<◌}
 use native.Mathlib.Omega.{arith}
-use mathlib.Core.Bool.{Bool, true, false, ◌||◌}
-use mathlib.Core.List.{List, [], ◌∷◌}
+use mathlib.Core.Bool.{false, ◌||◌}
+use mathlib.Core.List.{List, []}
 use mathlib.Core.Path.{◌≡◌, sym, ap, ◌∙◌, subst}
-use lib.ListN.{length, get_or, drop}
+use lib.ListN.{length, drop}
 use borrow.Author.Tests.{lt-ltb, le-ltb, ne_eqb}
 use Rattle.below.specs.Table.{table}
 use Rattle.below.proofs.Laws.Table.{length_table, get_or_table}
@@ -105,11 +105,11 @@ module _ (h : Header) (bytes : List ℕ) where
         let body = room.body in
         record {
           inside = omega (arith, body.rows_all, r);
-          few = omega (arith, body.marks-all, body.marks-few, room.gates);
-          marks_all = omega (arith, body.marks-all, room.gates, m);
-          uses_all = room.uses-all;
-          order_all = omega (arith, room.order-all, m);
-          order_none = room.order-none;
+          few = omega (arith, body.marks_all, body.marks_few, room.gates);
+          marks_all = omega (arith, body.marks_all, room.gates, m);
+          uses_all = room.uses_all;
+          order_all = omega (arith, room.order_all, m);
+          order_none = room.order_none;
           left_known =
               λ i l.
               (neither (unmarked marks (cell rows (h.inputs + h.latches + 1 + i) 1)) (unmarked marks (cell rows (h.inputs + h.latches + 1 + i) 2) || false)

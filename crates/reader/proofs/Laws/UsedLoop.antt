@@ -12,7 +12,7 @@ use lib.Seq.{drop-cons}
 use Rattle.circuit.specs.Outcome.{◌>>◌, refuse_if}
 use Rattle.fields.specs.Inner.Marks.{Marks}
 use Rattle.text.specs.Numbers.{not_defined}
-use Rattle.text.specs.Rules.{unknown, any_unknown}
+use Rattle.text.specs.Rules.{any_unknown}
 use Rattle.text.specs.Section.{used}
 use Rattle.reader.specs.Inner.UsedAs.{UsedAs, any_unmarked}
 use Rattle.fields.proofs.Laws.Judged.{unknown-unmarked}

@@ -1,5 +1,5 @@
 -- What the code's answer says of a file from behind its header on (01, "The numbers"). Assumes nothing.
-use Rattle.std.specs.Prelude.{ℕ, ◌≤◌, List, ◌≡◌, length}
+use Rattle.std.specs.Prelude.{ℕ, ◌≤◌, List, length}
 use Rattle.circuit.specs.Answer.{ReadAs}
 use Rattle.circuit.specs.Circuit.{Circuit, too_many}
 use Rattle.circuit.specs.Limits.{base}

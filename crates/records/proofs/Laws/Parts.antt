@@ -56,7 +56,7 @@ module _ (accepted certificate : List ℕ) where
           let two = placed certificate (head_length + length w.circuit) attack_kind contents rest one.within (ap split (sym one.rest-is) ∙ g) in
           let first : w.circuit ≡ circuit = cc in
           let last : contents ≡ table = cc in
-          subst₂ AttacksLie first last (record { circuit_lies = one.contents-are; table_lies = two.contents-are; within = two.within })
+          subst₂ AttacksLie first last (record { circuit_lies = one.contents_are; table_lies = two.contents_are; within = two.within })
 
   -- the lists of a reply certificate, as parts of it
   record RepliesLie (circuit region table : List ℕ) : Type 0 where
@@ -85,7 +85,7 @@ module _ (accepted certificate : List ℕ) where
           let middle : contents ≡ region = cc in
           let last : v.table ≡ table = cc in
           subst₃ RepliesLie first middle last
-          (record { circuit_lies = one.contents-are; region_lies = two.contents-are; table_lies = three.contents-are; within = three.within })
+          (record { circuit_lies = one.contents_are; region_lies = two.contents_are; table_lies = three.contents_are; within = three.within })
 
 -- where the parts of a reply certificate lie, by their ends
 pub record ReplyParts (accepted certificate : List ℕ) (circuit_end region region_end table table_end kind : ℕ) : Type 0 where
@@ -130,8 +130,8 @@ module _ (accepted certificate : List ℕ) where
           let ends : head_length + length circuit ≡ circuit_end = cc in
           let starts : head_length + length circuit + head_length ≡ table = cc in
           let over : head_length + length circuit + head_length + length bytes ≡ table_end = cc in
-          let first : circuit ≡ part head_length circuit_end certificate = there.circuit-lies ∙ ap (λ (n : ℕ). part head_length n certificate) ends in
-          let last : bytes ≡ part table table_end certificate = there.table-lies ∙ ap₂ (λ (n m : ℕ). part n m certificate) starts over in
+          let first : circuit ≡ part head_length circuit_end certificate = there.circuit_lies ∙ ap (λ (n : ℕ). part head_length n certificate) ends in
+          let last : bytes ≡ part table table_end certificate = there.table_lies ∙ ap₂ (λ (n m : ℕ). part n m certificate) starts over in
           record {
             tables = f ∙ (λ i. some (attacks (first i) (last i)));
             circuit_part = record { ordered = omega arith; inside = omega (arith, there.within) };
@@ -165,9 +165,9 @@ module _ (accepted certificate : List ℕ) where
           let behind : head_length + length circuit + head_length + length states ≡ region_end = cc in
           let starts : head_length + length circuit + head_length + length states + head_length ≡ table = cc in
           let over : head_length + length circuit + head_length + length states + head_length + length bytes ≡ table_end = cc in
-          let first : circuit ≡ part head_length circuit_end certificate = there.circuit-lies ∙ ap (λ (n : ℕ). part head_length n certificate) ends in
-          let middle : states ≡ part region region_end certificate = there.region-lies ∙ ap₂ (λ (n m : ℕ). part n m certificate) begins behind in
-          let last : bytes ≡ part table table_end certificate = there.table-lies ∙ ap₂ (λ (n m : ℕ). part n m certificate) starts over in
+          let first : circuit ≡ part head_length circuit_end certificate = there.circuit_lies ∙ ap (λ (n : ℕ). part head_length n certificate) ends in
+          let middle : states ≡ part region region_end certificate = there.region_lies ∙ ap₂ (λ (n m : ℕ). part n m certificate) begins behind in
+          let last : bytes ≡ part table table_end certificate = there.table_lies ∙ ap₂ (λ (n m : ℕ). part n m certificate) starts over in
           record {
             tables = f ∙ (λ i. some (replies (first i) (middle i) (same i) (last i)));
             taken = ap (λ (k : ℕ). member k accepted) (sym same) ∙ kind_taken accepted certificate circuit states sort bytes f;

@@ -5,7 +5,7 @@ use native.Mathlib.Omega.{arith}
 use native.Mathlib.Nat.{not-suc-le-zero, add-zero, le_of_suc-le-suc}
 use mathlib.Core.Bool.{Bool, true, false, ◌&&◌}
 use mathlib.Core.List.{List, [], ◌∷◌, ◌++◌}
-use mathlib.Core.Path.{◌≡◌, refl}
+use mathlib.Core.Path.{◌≡◌, refl, ap, ◌∙◌}
 use lib.Dec.{eqb}
 use lib.ListN.{length, get_or}
 use borrow.Author.Tests.{eq-eqb, ne_eqb}
@@ -119,7 +119,11 @@ printed_controllable d p (x ∷ is) (suc i) h = by (added p x is) (printed_contr
     shift : p + suc i ≡ suc p + i
     shift = omega arith
 
+    shifted : among (test (suc p + i)) (printed_symbols (suc p) is) ≡ (get_or is i d).controllable
+        → among (test (p + suc i)) (printed_symbols (suc p) is) ≡ (get_or is i d).controllable
+    shifted ih = ap (λ (n : ℕ). among (test n) (printed_symbols (suc p) is)) shift ∙ ih
+
     by : Added p x is → among (test (suc p + i)) (printed_symbols (suc p) is) ≡ (get_or is i d).controllable
         → among (test (p + suc i)) (printed_symbols p (x ∷ is)) ≡ (get_or is i d).controllable
-    by (named e q) ih = rw (q, elsewhere (p + suc i) (symbol_at p) (λ k. omega (arith, k)), shift) ih
-    by (unnamed e q) ih = rw (q, shift) ih
+    by (named e q) ih = rw (q, elsewhere (p + suc i) (symbol_at p) (λ k. omega (arith, k))) (shifted ih)
+    by (unnamed e q) ih = rw q (shifted ih)

@@ -61,22 +61,22 @@ module _ (h : Header) (rest : List (List ℕ)) (f : TextFile) (p : Parts h rest 
 
   inputs_whole : Whole (input_rule h.largest) h.inputs [] rest p.inputs
   unfolding input_rule
-  inputs_whole = section-whole (input_rule h.largest) 0 h.inputs 2 [] rest p.inputs refl p.inputs-taken
+  inputs_whole = section-whole (input_rule h.largest) 0 h.inputs 2 [] rest p.inputs refl p.inputs_taken
 
   latches_whole : Whole (latch_rule h.largest) h.latches p.inputs.defined p.inputs.rest p.latches
   unfolding latch_rule onward
   latches_whole = section-whole (latch_rule h.largest) 1 h.latches (2 + h.inputs) p.inputs.defined p.inputs.rest p.latches refl
-      p.latches-taken
+      p.latches_taken
 
   output_whole : Whole (output_rule h.largest) 1 p.latches.defined p.latches.rest p.output
   unfolding output_rule onward
   output_whole = section-whole (output_rule h.largest) 0 1 (2 + h.inputs + h.latches) p.latches.defined p.latches.rest p.output refl
-      p.output-taken
+      p.output_taken
 
   gates_whole : Whole (gate_rule h.largest) h.gates p.output.defined p.output.rest p.gates
   unfolding gate_rule onward
   gates_whole = section-whole (gate_rule h.largest) 2 h.gates (3 + h.inputs + h.latches) p.output.defined p.output.rest p.gates refl
-      p.gates-taken
+      p.gates_taken
 
   input_lines : LinesAre input_row (λ x. x) (Defining h.largest) [] p.inputs.rows F.inputs
   input_lines = inputs_are h.largest [] p.inputs.rows inputs_whole.fine
@@ -129,7 +129,7 @@ module _ (h : Header) (rest : List (List ℕ)) (f : TextFile) (p : Parts h rest 
       }
 
   symbols_are : SymbolsAre h [] p.gates.rest p.behind
-  symbols_are = symbol_lines_are h (3 + h.inputs + h.latches + h.gates) [] p.gates.rest p.behind p.symbols-taken
+  symbols_are = symbol_lines_are h (3 + h.inputs + h.latches + h.gates) [] p.gates.rest p.behind p.symbols_taken
 
   behind_text_lem : flat_map (λ l. l) p.gates.rest ≡ behind_text F
   behind_text_lem = symbols_are.text ∙ ap {B = List ℕ} (λ ss. flat_map symbol_line ss ++ comment_text p.behind.comment) (sym symbols_are.all)
@@ -177,7 +177,7 @@ module _ (h : Header) (rest : List (List ℕ)) (f : TextFile) (p : Parts h rest 
 
   late_known : All AllKnown (late_of p.latches p.output p.gates)
   late_known = subst (λ (d : List ℕ). All (All (Known d)) (late_of p.latches p.output p.gates)) gates_known
-      (known-used p.gates.defined (2 + h.inputs) (late_of p.latches p.output p.gates) tt p.late-taken)
+      (known-used p.gates.defined (2 + h.inputs) (late_of p.latches p.output p.gates) tt p.late_taken)
 
   nexts_known : All (λ (l : Latch). Known (defined_in F) l.next) F.latches
   unfolding latch_of
@@ -203,7 +203,7 @@ module _ (h : Header) (rest : List (List ℕ)) (f : TextFile) (p : Parts h rest 
       (map_all AllKnown (used_by a_gate) p.gates.rows (all_right AllKnown used_output used_gates behind_latches_lem)))
 
   no_circle_lem : (i : ℕ) → ReachesItself F.gates i → ⊥
-  no_circle_lem = circled_none F.gates (3 + h.inputs + h.latches) tt p.circle-taken
+  no_circle_lem = circled_none F.gates (3 + h.inputs + h.latches) tt p.circle_taken
 
   once : Pairs (λ v u. v ≢ u) (defined_in F)
   once =

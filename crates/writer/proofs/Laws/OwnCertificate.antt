@@ -181,7 +181,7 @@ module _ (kind : ℕ) (accepted : Accepted kind) (file : List ℕ) (c : Circuit)
     region_bytes_lem =
         let as_own : w.region_bytes ≡ region_bytes (in_region (circuit_game c)) L = are.0 ∙ ap (region_bytes (in_region (circuit_game c))) w.latches in
         let long : length w.region_bytes ≡ region_length L = ap length as_own ∙ length_region (in_region (circuit_game c)) L in
-        ap (λ (n : ℕ). take n (drop region own)) (sym long) ∙ sym w.region-front ∙ as_own
+        ap (λ (n : ℕ). take n (drop region own)) (sym long) ∙ sym w.region_front ∙ as_own
 
     -- each bit of the region record: 1 for a state of the region, else 0; a bit that stands for no state is 0
     pub own_bit : (i : ℕ) → i < 8 * region_length L → byte_bit (drop region own) i ≡ one_if (ltb i (2 ^ L) && in_region (circuit_game c) i)

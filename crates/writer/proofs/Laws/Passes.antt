@@ -82,7 +82,7 @@ module _ (file : List ℕ) (c : Circuit) (within : Within file c) where
       let long = bytes_longest kind (latch_count c) (uncontrollable_count c) (controllable_count c) within.few_controls in
       let places = pow_mono {i = latch_count c + uncontrollable_count c} {j = base.latches + base.uncontrollable}
       (omega (arith, within.few_latches, within.few_readings)) in
-      replies_shape accepted_kinds file (omega (arith, within.short)) kind (own_region c) (own_replies kind c) accepted.taken-kind accepted.narrow
+      replies_shape accepted_kinds file (omega (arith, within.short)) kind (own_region c) (own_replies kind c) accepted.taken_kind accepted.narrow
       (omega (arith, length_region (in_region (circuit_game c)) (latch_count c), few))
       (omega (
         arith,

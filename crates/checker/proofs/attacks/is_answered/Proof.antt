@@ -82,7 +82,7 @@ returns c =
     (end - l.m / width * width)) w.before.before.before.before.latches-of.ensures in
     tried_kept a.net.now s₀.requires (unranked a.table.now (net_latches a.net.now) a.bound) _ _ _ _ (first w) (end_is w) l.m _ _ (parted l.m)
     (mod-lt l.m (omega arith)) v.new.1.1.0 l.words v.ensures (l.invariant s₀.requires (first w) (end_is w))
-    c.before.before.before.before.before.loop-test.true (sym (c.before.block-keeps.ensures ∙ same) ∙ c.if1.true)
+    c.before.before.before.before.before.loop-test.true (sym (c.before.block_keeps_lem.ensures ∙ same) ∙ c.if1.true)
 
 add-m : tie.Need-overflow-add-m invariant-loop decreases-loop
 add-m c = let w = c.before.before.before.before.before.before.before in
@@ -109,7 +109,7 @@ loop-again c =
     (end - l.m / width * width)) w.before.before.before.before.latches-of.ensures in
     λ s starts ends. tried_next a.net.now s (unranked a.table.now (net_latches a.net.now) a.bound) _ _ _ _ starts ends l.m _ _ (parted l.m)
     (mod-lt l.m (omega arith)) v.new.1.1.0 l.words v.ensures (l.invariant s starts ends)
-    c.before.before.before.before.before.loop-test.true (sym (c.before.block-keeps.ensures ∙ same) ∙ c.if1.false)
+    c.before.before.before.before.before.loop-test.true (sym (c.before.block_keeps_lem.ensures ∙ same) ∙ c.if1.false)
 
 returns-2 : tie.Need-returns-2 invariant-loop decreases-loop
 returns-2 c =
