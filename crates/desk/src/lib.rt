@@ -6,7 +6,8 @@ mod place;
 pub mod save;
 mod trouble;
 
-ghost use Rattle.std.specs.Prelude.{◌≡◌, ◌+◌, min, length, replicate};
+ghost use Rattle.std.specs.Prelude.{◌≡◌, ◌+◌, ◌<◌, false, min, length, replicate, take, OnOk};
+ghost use Rattle.std.specs.Io.KnownBytes.{Consumes, IsAtEnd};
 ghost use Rattle.desk.specs.Counts.{IsPrefixLen};
 ghost use Rattle.circuit.specs.Limits.{base};
 
@@ -141,7 +142,9 @@ pub fn read_open<R: Read>(rt: &HostRuntime, reader: &mut R, name: &[u8], space: 
 
 // Fills the space until it is full, the reader ends or a read fails; answers how many bytes stand at the front, and the read that failed.
 pub(crate) fn fill<R: Read>(reader: &mut R, space: &mut [u8]) -> (usize, io::Result<()>)
-    ensures { IsPrefixLen result.0 space.new }
+    ensures prefix_len { IsPrefixLen result.0 space.new }
+    ensures known { Consumes (R.remaining reader.old) (R.remaining reader.new) (take result.0 space.new) }
+    ensures end { OnOk result.1 (result.0 < length space.new → IsAtEnd (R.remaining reader.new)) }
 {
     let mut n = 0;
     while n < space.len() {
