@@ -24,7 +24,7 @@ use step::{Control, Reading};
 
 // A reading of a file: its refusal, or L, U and C.
 #[repr(C)]
-#[derive(Drop)]
+#[derive(Clone, Copy)]
 pub struct ReadAnswer {
     pub number: u8,
     pub place: usize,
@@ -35,7 +35,7 @@ pub struct ReadAnswer {
 
 // A step: the file's refusal, or error and next state.
 #[repr(C)]
-#[derive(Drop)]
+#[derive(Clone, Copy)]
 pub struct StepAnswer {
     pub number: u8,
     pub place: usize,
@@ -45,7 +45,7 @@ pub struct StepAnswer {
 
 // A certificate written: why nothing was, or the verdict and the count of bytes.
 #[repr(C)]
-#[derive(Drop)]
+#[derive(Clone, Copy)]
 pub struct CertifyAnswer {
     pub number: u8,
     pub place: usize,
@@ -56,7 +56,7 @@ pub struct CertifyAnswer {
 // A check: its refusal, or the kind of the table (3 of replies, 5 of packed replies, 4 of attacks), where region and table start, L, U and C.
 // Attacks have no region and tell no C.
 #[repr(C)]
-#[derive(Drop)]
+#[derive(Clone, Copy)]
 pub struct CheckAnswer {
     pub number: u8,
     pub place: usize,
@@ -70,7 +70,7 @@ pub struct CheckAnswer {
 
 // A print: why nothing was written, or the count of bytes.
 #[repr(C)]
-#[derive(Drop)]
+#[derive(Clone, Copy)]
 pub struct PrintAnswer {
     pub number: u8,
     pub place: usize,
@@ -79,7 +79,7 @@ pub struct PrintAnswer {
 
 // A part of lent bytes.
 #[repr(C)]
-#[derive(Drop)]
+#[derive(Clone, Copy)]
 pub struct Part {
     pub start: usize,
     pub bytes: usize,

@@ -20,7 +20,7 @@ use records::{HEAD, Shape};
 use replies::check_replies;
 
 // What a pass answers: where the tables start in the certificate, the kind of the reply record, and L, U and C, so that they can be read.
-#[derive(Drop)]
+#[derive(Clone, Copy)]
 pub enum Checked {
     Replies {
         region: usize,

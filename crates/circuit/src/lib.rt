@@ -8,7 +8,7 @@ pub mod stored;
 // A circuit (01, "The file"; 02, T-01): counts and literals, inputs and latches in the order of the file, gates in order of evaluation; for each
 // gate line of the file, which of the gates it is.
 // Arrays are of numbers, so that a step can lend them; what lies behind a count isn't read.
-#[derive(Drop)]
+#[derive(Clone, Copy)]
 pub struct Circuit {
     pub largest: u16,
     pub inputs: usize,
@@ -59,27 +59,27 @@ impl Circuit {
 }
 
 // A refusal (01, "The numbers").
-#[derive(Drop)]
+#[derive(Clone, Copy)]
 pub struct Refusal {
     pub number: u8,
     pub place: usize,
 }
 
 // What a reader answers, with the circuit beside it: an enum can't hold an array. After a refusal it is the empty circuit.
-#[derive(Drop)]
+#[derive(Clone, Copy)]
 pub enum Read {
     Taken,
     Refused(Refusal),
 }
 
-#[derive(Drop)]
+#[derive(Clone, Copy)]
 pub struct FileRead {
     pub answer: Read,
     pub circuit: Circuit,
 }
 
 // What a writer answers: how many bytes it wrote at the front of the buffer, or why it wrote none.
-#[derive(Drop)]
+#[derive(Clone, Copy)]
 pub enum Written {
     Bytes(usize),
     Refused(Refusal),

@@ -3,7 +3,7 @@ ghost use Rattle.std.specs.Prelude.{◌+◌, ◌≡◌};
 ghost use Rattle.fields.specs.Inner.NumberAt.{digit_at, NumberAt};
 
 // A number with the place behind it, or none.
-#[derive(Drop)]
+#[derive(Clone, Copy)]
 pub enum Num {
     Is(u32, usize),
     Bad,

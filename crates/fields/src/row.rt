@@ -5,7 +5,7 @@ use crate::number::{Num, number_at};
 use bits::bytes::byte_at;
 
 // A number with the place behind it and the space that follows it, a line's last number, or neither.
-#[derive(Drop)]
+#[derive(Clone, Copy)]
 enum Field {
     More(u32, usize),
     Last(u32),
@@ -35,7 +35,7 @@ fn field_at(s: &[u8], at: usize) -> Field
 }
 
 // How many numbers a line has from a place on, one to five, and which; what isn't there is 0.
-#[derive(Drop)]
+#[derive(Clone, Copy)]
 pub enum Row {
     Bad,
     Of(usize, u32, u32, u32, u32, u32),

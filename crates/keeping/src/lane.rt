@@ -11,7 +11,7 @@ use blocks::is_lane;
 use circuit::Circuit;
 
 // A lane, and the state that it leads to.
-#[derive(Drop)]
+#[derive(Clone, Copy)]
 pub struct Found {
     pub lane: usize,
     pub lead: u16,

@@ -9,7 +9,7 @@ use fields::judge::{bad_own, both, either, first_of, is_marked, too_large};
 use fields::row::{Row, row_at};
 
 // A line's literals; what isn't there is 0.
-#[derive(Drop)]
+#[derive(Clone, Copy)]
 pub enum Lined {
     Row(u32, u32, u32),
     Fault(u8),

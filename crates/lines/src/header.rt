@@ -14,7 +14,7 @@ pub struct Header {
     pub gates: u32,
 }
 
-#[derive(Drop)]
+#[derive(Clone, Copy)]
 pub enum Headed {
     Is(Header),
     Bad,

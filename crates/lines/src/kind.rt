@@ -14,7 +14,7 @@ pub enum Kind {
 }
 
 // What a kind asks: from how many numbers to how many; and whether the first defines a variable.
-#[derive(Drop)]
+#[derive(Clone, Copy)]
 pub struct Form {
     pub fewest: usize,
     pub most: usize,

@@ -12,7 +12,7 @@ use fields::number::{Num, number_at};
 
 // What a line behind the gates is: the comment's, a symbol's (where its mark stands, its position, and whether it makes an input
 // controllable), or none.
-#[derive(Drop)]
+#[derive(Clone, Copy)]
 pub enum Symboled {
     Comment,
     Of(usize, usize, bool),

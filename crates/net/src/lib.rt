@@ -15,7 +15,7 @@ use names::{controls_of, name_inputs, name_latches, net_literal, no_names};
 use numbers::{no_numbers, put_gates, put_head, put_nexts};
 
 // The numbers of a net, and how many there are; zeros stand behind them.
-#[derive(Drop)]
+#[derive(Clone, Copy)]
 pub struct Net {
     pub numbers: [u16; Net::NUMBERS],
     pub length: usize,

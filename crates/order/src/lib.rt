@@ -21,7 +21,7 @@ use placing::place;
 use test::in_order;
 
 // The lowest gate that reaches itself, if there is one.
-#[derive(Drop)]
+#[derive(Clone, Copy)]
 pub enum Placed {
     InOrder,
     Circle(usize),

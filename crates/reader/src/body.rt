@@ -13,7 +13,7 @@ use lines::header::Header;
 use lines::kind::{Kind, form_of, kind_of};
 
 // How reading lines came out: the cursor behind them, or a refusal.
-#[derive(Drop)]
+#[derive(Clone, Copy)]
 pub enum Reached {
     At(Cursor),
     Refused(Refusal),

@@ -8,7 +8,7 @@ pub mod stored;
 pub mod tables;
 
 // A record at a place: its kind and where its contents start and end, or that it is cut short.
-#[derive(Drop)]
+#[derive(Clone, Copy)]
 pub enum RecordAt {
     Whole { kind: u16, start: usize, end: usize },
     Cut,
@@ -16,7 +16,7 @@ pub enum RecordAt {
 
 // The shape of a certificate: where the contents of its records start and end, and the kind of the reply record. The circuit starts behind
 // the first head.
-#[derive(Drop)]
+#[derive(Clone, Copy)]
 pub enum Shape {
     Replies {
         circuit_end: usize,

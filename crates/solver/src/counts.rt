@@ -10,7 +10,7 @@ use circuit::Circuit;
 use circuit::counts::{controllable_count, too_many, uncontrollable_count};
 
 // L, U and C.
-#[derive(Drop)]
+#[derive(Clone, Copy)]
 pub struct Counts {
     pub latches: usize,
     pub uncontrollable: usize,

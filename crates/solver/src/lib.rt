@@ -17,7 +17,7 @@ use circuit::Circuit;
 use rooms::solve_net;
 
 // What the solver answers: ranks and attacks of the states, and replies, at index s × 2^U + reading; 0 behind the last.
-#[derive(Drop)]
+#[derive(Clone, Copy)]
 pub struct Solution {
     pub ranks: [u16; Circuit::STATES],
     pub replies: [u8; Circuit::REPLIES],

@@ -17,7 +17,7 @@ use keeping::lane::keeping_lane;
 use keeping::rank_list::{first_failed, still_keeps};
 
 // A move, and the state that it leads to.
-#[derive(Drop)]
+#[derive(Clone, Copy)]
 pub(crate) struct Found {
     pub number: usize,
     pub lead: u16,

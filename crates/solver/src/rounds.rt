@@ -113,7 +113,7 @@ fn round(
 }
 
 // What a state has after a round: its rank, and its attack where it has one.
-#[derive(Drop)]
+#[derive(Clone, Copy)]
 struct Given {
     rank: u16,
     attack: u8,

@@ -16,14 +16,14 @@ use circuit::Circuit;
 use circuit::stored::{is_controllable, latches_of, literal, literal_at};
 
 // What the uncontrollable and the controllable inputs say; taken apart only inside the step.
-#[derive(Drop)]
+#[derive(Clone, Copy)]
 pub struct Reading(pub u8);
 
-#[derive(Drop)]
+#[derive(Clone, Copy)]
 pub struct Control(pub u8);
 
 // What a step gives: the error, before the latches move, and the next state.
-#[derive(Drop)]
+#[derive(Clone, Copy)]
 pub struct Stepped {
     pub error: bool,
     pub next: u16,

@@ -11,7 +11,7 @@ ghost use Rattle.view.specs.View.{view_of};
 
 use records::passed::{packed_reply, region_bit, reply};
 
-#[derive(Drop)]
+#[derive(Clone, Copy)]
 pub struct View<'a> {
     pub certificate: &'a [u8],
     pub region: usize,

@@ -17,7 +17,7 @@ use kinds::{certify_attacks, certify_replies};
 use records::{PACKED, REPLIES};
 
 // What a writer of certificates answers: the verdict with the count of bytes, or why nothing was written.
-#[derive(Drop)]
+#[derive(Clone, Copy)]
 pub enum Certified {
     Realizable(usize),
     Unrealizable(usize),
