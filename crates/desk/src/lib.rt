@@ -25,7 +25,7 @@ pub const CERTIFICATE: usize = 3 * HEAD + Circuit::FILE + Circuit::REGION + Circ
 pub const NAME: usize = 4096;
 
 // How many bytes stand at the front of a space, or that there was trouble, which has been told.
-#[derive(Drop)]
+#[derive(Clone, Copy)]
 pub struct Filled {
     pub trouble: bool,
     pub bytes: usize,
