@@ -2,44 +2,40 @@
 #![tactic(auto)]
 
 use circuit::Read;
-use libc::STDOUT_FILENO;
 
-fn main() {
-    let n = os::arg_count();
-    let mut i = 1;
-    while i < n {
-        answer_argument(i);
-        i += 1;
+fn main(rt: HostRuntime) {
+    for i in 1..desk::argument_count(&rt) {
+        answer_argument(&rt, i);
     }
 }
 
-fn answer_argument(i: usize) {
-    let mut name = io::buffer();
-    let filled = desk::argument(i, &mut name);
+fn answer_argument(rt: &HostRuntime, i: usize) {
+    let mut name = [0; desk::NAME];
+    let filled = desk::argument(rt, i, &mut name);
     if !filled.trouble {
         let n = filled.bytes;
-        answer_file(&name[..n]);
+        answer_file(rt, &name[..n]);
     }
 }
 
-fn answer_file(name: &[u8]) {
+fn answer_file(rt: &HostRuntime, name: &[u8]) {
     let mut space = desk::blank();
-    let filled = desk::read_file(name, &mut space);
+    let filled = desk::read_file(rt, name, &mut space);
     if !filled.trouble {
         let n = filled.bytes;
         let r = file::read(&space[..n]);
         let answer = r.answer;
-        io::write_all(STDOUT_FILENO, name);
-        print_answer(answer);
+        let _ = rt.write_all(name);
+        print_answer(rt, answer);
     }
 }
 
-fn print_answer(answer: Read) {
-    io::write_all(STDOUT_FILENO, b": ");
+fn print_answer(rt: &HostRuntime, answer: Read) {
+    let _ = rt.write_all(b": ");
     match answer {
         Read::Taken => {
-            io::write_all(STDOUT_FILENO, b"taken\n");
+            let _ = rt.write_all(b"taken\n");
         }
-        Read::Refused(refusal) => desk::print_refusal(refusal),
+        Read::Refused(refusal) => desk::print_refusal(rt, refusal),
     }
 }

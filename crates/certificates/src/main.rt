@@ -3,70 +3,66 @@
 #![tactic(auto)]
 
 use checker::Checked;
-use libc::STDOUT_FILENO;
 use writer::Certified;
 
-fn main() {
-    let n = os::arg_count();
-    let mut i = 1;
-    while i < n {
-        certify_argument(i);
-        i += 1;
+fn main(rt: HostRuntime) {
+    for i in 1..desk::argument_count(&rt) {
+        certify_argument(&rt, i);
     }
 }
 
-fn certify_argument(i: usize) {
-    let mut name = io::buffer();
-    let filled = desk::argument(i, &mut name);
+fn certify_argument(rt: &HostRuntime, i: usize) {
+    let mut name = [0; desk::NAME];
+    let filled = desk::argument(rt, i, &mut name);
     if !filled.trouble {
         let n = filled.bytes;
-        certify_file(&name[..n]);
+        certify_file(rt, &name[..n]);
     }
 }
 
-fn certify_file(name: &[u8]) {
+fn certify_file(rt: &HostRuntime, name: &[u8]) {
     let mut space = desk::blank();
-    let filled = desk::read_file(name, &mut space);
+    let filled = desk::read_file(rt, name, &mut space);
     if !filled.trouble {
         let n = filled.bytes;
-        io::write_all(STDOUT_FILENO, name);
-        certify(&space[..n]);
-        io::write_all(STDOUT_FILENO, name);
-        io::write_all(STDOUT_FILENO, b", packed");
-        certify_packed(&space[..n]);
+        let _ = rt.write_all(name);
+        certify(rt, &space[..n]);
+        let _ = rt.write_all(name);
+        let _ = rt.write_all(b", packed");
+        certify_packed(rt, &space[..n]);
     }
 }
 
-fn certify(file: &[u8]) {
+fn certify(rt: &HostRuntime, file: &[u8]) {
     let mut certificate = desk::blank_certificate();
     let answer = writer::certify(file, &mut certificate);
-    check_certified(answer, file, &certificate);
+    check_certified(rt, answer, file, &certificate);
 }
 
-fn certify_packed(file: &[u8]) {
+fn certify_packed(rt: &HostRuntime, file: &[u8]) {
     let mut certificate = desk::blank_certificate();
     let answer = writer::certify_packed(file, &mut certificate);
-    check_certified(answer, file, &certificate);
+    check_certified(rt, answer, file, &certificate);
 }
 
-fn check_certified<'a>(answer: Certified, file: &'a [u8], certificate: &'a [u8]) {
+fn check_certified<'a>(rt: &HostRuntime, answer: Certified, file: &'a [u8], certificate: &'a [u8]) {
     match answer {
-        Certified::Realizable(n) => check(file, certificate, n, b": realizable "),
-        Certified::Unrealizable(n) => check(file, certificate, n, b": unrealizable "),
+        Certified::Realizable(n) => check(rt, file, certificate, n, b": realizable "),
+        Certified::Unrealizable(n) => check(rt, file, certificate, n, b": unrealizable "),
         Certified::Refused(refusal) => {
-            io::write_all(STDOUT_FILENO, b": ");
-            desk::print_refusal(refusal);
+            let _ = rt.write_all(b": ");
+            desk::print_refusal(rt, refusal);
         }
     }
 }
 
 // Whether the first n bytes pass.
-fn check<'a>(file: &'a [u8], certificate: &'a [u8], n: usize, verdict: &'a [u8]) {
+fn check<'a>(rt: &HostRuntime, file: &'a [u8], certificate: &'a [u8], n: usize, verdict: &'a [u8]) {
     let end = desk::front(certificate, n);
-    desk::print_number(verdict, end as u64);
-    io::write_all(STDOUT_FILENO, b" ");
+    let _ = desk::print_number(rt, verdict, end as u64);
+    let _ = rt.write_all(b" ");
     match checker::check(file, &certificate[..end]) {
-        Checked::Refused(refusal) => desk::print_refusal(refusal),
-        _ => desk::print_end(io::write_all(STDOUT_FILENO, b"passed")),
+        Checked::Refused(refusal) => desk::print_refusal(rt, refusal),
+        _ => desk::print_end(rt, rt.write_all(b"passed")),
     }
 }

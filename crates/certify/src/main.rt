@@ -7,25 +7,25 @@ use bits::bytes::same_bytes;
 use desk::save::save_argument;
 use writer::Certified;
 
-fn main() {
-    let words = os::arg_count();
+fn main(rt: HostRuntime) {
+    let words = desk::argument_count(&rt);
     if words == 3 {
-        certify_argument(false);
+        certify_argument(&rt, false);
         return;
     }
     if words == 4 {
-        if is_packed() {
-            certify_argument(true);
+        if is_packed(&rt) {
+            certify_argument(&rt, true);
             return;
         }
     }
-    desk::tell(b"usage", b"certify CIRCUIT CERTIFICATE [packed]");
+    desk::tell(&rt, b"usage", b"certify CIRCUIT CERTIFICATE [packed]");
 }
 
 // Whether the third argument is the word `packed`.
-fn is_packed() -> bool {
-    let mut word = io::buffer();
-    let filled = desk::argument(3, &mut word);
+fn is_packed(rt: &HostRuntime) -> bool {
+    let mut word = [0; desk::NAME];
+    let filled = desk::argument(rt, 3, &mut word);
     if filled.trouble {
         return false;
     }
@@ -33,43 +33,43 @@ fn is_packed() -> bool {
     same_bytes(&word[..n], b"packed")
 }
 
-fn certify_argument(packed: bool) {
+fn certify_argument(rt: &HostRuntime, packed: bool) {
     let mut space = desk::blank();
-    let filled = desk::read_argument(1, &mut space);
+    let filled = desk::read_argument(rt, 1, &mut space);
     if !filled.trouble {
         let n = filled.bytes;
         if packed {
-            certify_packed(&space[..n]);
+            certify_packed(rt, &space[..n]);
         } else {
-            certify(&space[..n]);
+            certify(rt, &space[..n]);
         }
     }
 }
 
-fn certify(file: &[u8]) {
+fn certify(rt: &HostRuntime, file: &[u8]) {
     let mut certificate = desk::blank_certificate();
     let answer = writer::certify(file, &mut certificate);
-    keep_certified(answer, &certificate);
+    keep_certified(rt, answer, &certificate);
 }
 
-fn certify_packed(file: &[u8]) {
+fn certify_packed(rt: &HostRuntime, file: &[u8]) {
     let mut certificate = desk::blank_certificate();
     let answer = writer::certify_packed(file, &mut certificate);
-    keep_certified(answer, &certificate);
+    keep_certified(rt, answer, &certificate);
 }
 
-fn keep_certified(answer: Certified, certificate: &[u8]) {
+fn keep_certified(rt: &HostRuntime, answer: Certified, certificate: &[u8]) {
     match answer {
-        Certified::Realizable(n) => keep(certificate, n, b"realizable "),
-        Certified::Unrealizable(n) => keep(certificate, n, b"unrealizable "),
-        Certified::Refused(refusal) => desk::print_refusal(refusal),
+        Certified::Realizable(n) => keep(rt, certificate, n, b"realizable "),
+        Certified::Unrealizable(n) => keep(rt, certificate, n, b"unrealizable "),
+        Certified::Refused(refusal) => desk::print_refusal(rt, refusal),
     }
 }
 
 // The first n bytes are saved; then the verdict is printed.
-fn keep(certificate: &[u8], n: usize, verdict: &[u8]) {
+fn keep(rt: &HostRuntime, certificate: &[u8], n: usize, verdict: &[u8]) {
     let end = desk::front(certificate, n);
-    if save_argument(2, &certificate[..end]) {
-        desk::print_end(desk::print_number(verdict, end as u64));
+    if save_argument(rt, 2, &certificate[..end]) {
+        desk::print_end(rt, desk::print_number(rt, verdict, end as u64));
     }
 }

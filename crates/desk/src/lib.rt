@@ -4,20 +4,28 @@
 
 mod place;
 pub mod save;
+mod trouble;
 
-ghost use Rattle.std.specs.Prelude.{◌≡◌, ◌+◌, min, length, replicate};
-ghost use Rattle.io.specs.Counts.{IsPrefixLen};
+ghost use Rattle.std.specs.Prelude.{◌≡◌, ◌+◌, ◌<◌, false, min, length, replicate, take, OnOk};
+ghost use Rattle.std.specs.Io.KnownBytes.{Consumes, IsAtEnd};
+ghost use Rattle.desk.specs.Counts.{IsPrefixLen};
 ghost use Rattle.circuit.specs.Limits.{base};
 
 use circuit::{Circuit, Refusal};
-use libc::{STDERR_FILENO, STDOUT_FILENO};
 use records::HEAD;
+use std::env::{Env, FillError};
+use std::io::Read;
+use std::{fs, io};
+use trouble::{fail, missing_argument, path, print_line};
 
 // The longest certificate that is written: three records, with a file, a region and replies at their limits.
 pub const CERTIFICATE: usize = 3 * HEAD + Circuit::FILE + Circuit::REGION + Circuit::REPLIES;
 
+// As many bytes as hold any name of a file that the system takes.
+pub const NAME: usize = 4096;
+
 // How many bytes stand at the front of a space, or that there was trouble, which has been told.
-#[derive(Drop)]
+#[derive(Clone, Copy)]
 pub struct Filled {
     pub trouble: bool,
     pub bytes: usize,
@@ -25,44 +33,63 @@ pub struct Filled {
 
 // Zeros, one more than a file may have: a longer one is known to be too long without being read to its end.
 pub fn blank() -> [u8; Circuit::FILE + 1]
-    ensures file_value { base.file + 1 ≡ length result }
-    ensures value { result ≡ replicate (base.file + 1) 0 }
+    ensures len { base.file + 1 ≡ length result }
+    ensures zeros { result ≡ replicate (base.file + 1) 0 }
 {
     [0; Circuit::FILE + 1]
 }
 
 // Zeros, as many as the longest certificate has bytes (writer, `longest_certificate`).
 pub fn blank_certificate() -> [u8; CERTIFICATE]
-    ensures value { 49298 ≡ length result }
-    ensures value_2 { result ≡ replicate 49298 0 }
+    ensures len { 49298 ≡ length result }
+    ensures zeros { result ≡ replicate 49298 0 }
 {
     [0; CERTIFICATE]
 }
 
+// How many arguments there are, the program's own name among them.
+pub fn argument_count(rt: &HostRuntime) -> usize {
+    for i in 0..usize::MAX {
+        if !has_argument(rt, i) {
+            return i;
+        }
+    }
+    usize::MAX
+}
+
+// No byte is asked for: one that is there and has some is too long.
+fn has_argument(rt: &HostRuntime, i: usize) -> bool {
+    match rt.arg(i, &mut []) {
+        Err(FillError::NotPresent) => false,
+        _ => true,
+    }
+}
+
 // Fills the space with an argument.
-pub fn argument(i: usize, space: &mut [u8]) -> Filled
+pub fn argument(rt: &HostRuntime, i: usize, space: &mut [u8]) -> Filled
     ensures { IsPrefixLen result.«bytes» space.new }
 {
-    let n = os::arg(i, space);
-    if os::errno() != 0 {
-        os::fail(b"argument");
-        return Filled {
-            trouble: true,
+    match rt.arg(i, space) {
+        Ok(n) => Filled {
+            trouble: false,
             bytes: n,
-        };
-    }
-    Filled {
-        trouble: false,
-        bytes: n,
+        },
+        Err(error) => {
+            fail(rt, b"argument", missing_argument(error));
+            Filled {
+                trouble: true,
+                bytes: 0,
+            }
+        }
     }
 }
 
 // Fills the space with the file that an argument names, as far as it goes.
-pub fn read_argument(i: usize, space: &mut [u8]) -> Filled
+pub fn read_argument(rt: &HostRuntime, i: usize, space: &mut [u8]) -> Filled
     ensures { IsPrefixLen result.«bytes» space.new }
 {
-    let mut name = io::buffer();
-    let filled = argument(i, &mut name);
+    let mut name = [0; NAME];
+    let filled = argument(rt, i, &mut name);
     if filled.trouble {
         return Filled {
             trouble: true,
@@ -70,78 +97,95 @@ pub fn read_argument(i: usize, space: &mut [u8]) -> Filled
         };
     }
     let n = filled.bytes;
-    read_file(&name[..n], space)
+    read_file(rt, &name[..n], space)
 }
 
 // Fills the space with the file of this name, as far as it goes.
-pub fn read_file(name: &[u8], space: &mut [u8]) -> Filled
+pub fn read_file(rt: &HostRuntime, name: &[u8], space: &mut [u8]) -> Filled
     ensures { IsPrefixLen result.«bytes» space.new }
 {
-    let fd = os::open_read(name);
-    if fd < 0 {
-        os::fail(name);
-        return Filled {
-            trouble: true,
-            bytes: 0,
-        };
-    }
-    let filled = read_open(fd, name, space);
-    libc::close(fd);
-    filled
-}
-
-// Fills the space with an open file, as far as it goes. A short count of `read_full` doesn't tell the end of the file from a read that
-// failed, as of a directory.
-pub fn read_open(fd: i32, name: &[u8], space: &mut [u8]) -> Filled
-    ensures { IsPrefixLen result.«bytes» space.new }
-{
-    let n = io::read_full(fd, space);
-    if n < space.len() {
-        if !has_ended(fd) {
-            os::fail(name);
-            return Filled {
+    match open(rt, name) {
+        Ok(mut file) => read_open(rt, &mut file, name, space),
+        Err(error) => {
+            fail(rt, name, error);
+            Filled {
                 trouble: true,
-                bytes: n,
-            };
+                bytes: 0,
+            }
         }
     }
-    Filled {
-        trouble: false,
-        bytes: n,
+}
+
+fn open(rt: &HostRuntime, name: &[u8]) -> io::Result<fs::File> {
+    fs::open(rt, path(name)?)
+}
+
+// Fills the space with what an open file or another reader gives, as far as it goes.
+pub fn read_open<R: Read>(rt: &HostRuntime, reader: &mut R, name: &[u8], space: &mut [u8]) -> Filled
+    ensures { IsPrefixLen result.«bytes» space.new }
+{
+    let (n, ended) = fill(reader, space);
+    match ended {
+        Ok(()) => Filled {
+            trouble: false,
+            bytes: n,
+        },
+        Err(error) => {
+            fail(rt, name, error);
+            Filled {
+                trouble: true,
+                bytes: n,
+            }
+        }
     }
 }
 
-fn has_ended(fd: i32) -> bool {
-    let mut one = [0u8; 1];
-    libc::read(fd, &mut one) == 0
+// Fills the space until it is full, the reader ends or a read fails; answers how many bytes stand at the front, and the read that failed.
+pub(crate) fn fill<R: Read>(reader: &mut R, space: &mut [u8]) -> (usize, io::Result<()>)
+    ensures prefix_len { IsPrefixLen result.0 space.new }
+    ensures known { Consumes (R.remaining reader.old) (R.remaining reader.new) (take result.0 space.new) }
+    ensures end { OnOk result.1 (result.0 < length space.new → IsAtEnd (R.remaining reader.new)) }
+{
+    let mut n = 0;
+    while n < space.len() {
+        match reader.read(&mut space[n..]) {
+            Ok(0) => break,
+            Ok(more) => n += more,
+            Err(error) => return (n, Err(error)),
+        }
+    }
+    (n, Ok(()))
 }
 
 // `refused`, number and place.
-pub fn print_refusal(refusal: Refusal) {
-    let number = print_number(b"refused ", refusal.number as u64);
-    let place = print_number(b" ", refusal.place as u64);
-    print_end(number && place);
+pub fn print_refusal(rt: &HostRuntime, refusal: Refusal) {
+    let number = print_number(rt, b"refused ", refusal.number as u64);
+    let place = print_number(rt, b" ", refusal.place as u64);
+    print_end(rt, place.and(number));
 }
 
-// A number behind a text, and whether both were written.
-pub fn print_number(text: &[u8], n: u64) -> bool {
-    io::write_all(STDOUT_FILENO, text) && io::print_decimal(STDOUT_FILENO, n)
+// A number behind a text, or why they couldn't be written whole.
+pub fn print_number(rt: &HostRuntime, text: &[u8], n: u64) -> io::Result<()> {
+    rt.write_all(text)?;
+    rt.print(n)
 }
 
 // Ends a line, and tells if it couldn't be written whole.
-pub fn print_end(written: bool) {
-    let ended = io::write_all(STDOUT_FILENO, b"\n");
-    if !(written && ended) {
-        os::fail(b"standard output");
+pub fn print_end(rt: &HostRuntime, written: io::Result<()>) {
+    let ended = rt.write_all(b"\n");
+    tell_unwritten(rt, ended.and(written));
+}
+
+fn tell_unwritten(rt: &HostRuntime, written: io::Result<()>) {
+    if let Err(error) = written {
+        fail(rt, b"standard output", error);
     }
 }
 
 // Prints the first n bytes of a page, or all if it has fewer.
-pub fn print_front(page: &[u8], n: usize) {
+pub fn print_front(rt: &HostRuntime, page: &[u8], n: usize) {
     let end = front(page, n);
-    if !io::write_all(STDOUT_FILENO, &page[..end]) {
-        os::fail(b"standard output");
-    }
+    tell_unwritten(rt, rt.write_all(&page[..end]));
 }
 
 // How many of the first n bytes there are.
@@ -153,9 +197,6 @@ pub fn front(page: &[u8], n: usize) -> usize
 }
 
 // Tells trouble that the system has no words for.
-pub fn tell(what: &[u8], trouble: &[u8]) {
-    io::write_all(STDERR_FILENO, what);
-    io::write_all(STDERR_FILENO, b": ");
-    io::write_all(STDERR_FILENO, trouble);
-    io::write_all(STDERR_FILENO, b"\n");
+pub fn tell(rt: &HostRuntime, what: &[u8], trouble: &[u8]) {
+    print_line(rt, what, trouble);
 }

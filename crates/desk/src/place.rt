@@ -1,48 +1,56 @@
 // A certificate's place. Links are followed, and a file that stands there is replaced only if it is a certificate: any other stays.
-ghost use Rattle.io.specs.Counts.{IsPrefixLen};
-ghost use Rattle.libc.specs.Io.{Ended};
+ghost use Rattle.std.specs.Prelude.{IfOk};
+ghost use Rattle.desk.specs.Counts.{IsPrefixLen};
 
-use crate::{CERTIFICATE, blank_certificate, front, tell};
+use crate::trouble::{fail, path};
+use crate::{CERTIFICATE, NAME, blank_certificate, fill, front, tell};
 use bits::bytes::byte_at;
-use libc::PATH_MAX;
 use records::Shape;
+use std::fs::{File, OpenOptions};
+use std::io::{ErrorKind, Seek, SeekFrom};
+use std::{fs, io};
 
 // So many links are followed, as the system does.
 const LINKS: usize = 40;
 
 // Whether a certificate may be saved at a place: nothing stands there, or a certificate. Told if not.
-pub(crate) fn is_free(name: &[u8]) -> bool {
-    let fd = os::open_update(name);
-    if fd < 0 {
-        return is_missing(name);
+pub(crate) fn is_free(rt: &HostRuntime, name: &[u8]) -> bool {
+    match open_update(rt, name) {
+        Ok(mut file) => holds_certificate(rt, &mut file, name),
+        Err(error) => is_missing(rt, name, error),
     }
-    let free = holds_certificate(fd, name);
-    libc::close(fd);
-    free
+}
+
+fn open_update(rt: &HostRuntime, name: &[u8]) -> io::Result<File> {
+    OpenOptions::new()
+        .read(true)
+        .write(true)
+        .open(rt, path(name)?)
 }
 
 // What can't be opened can't be told from another file.
-fn is_missing(name: &[u8]) -> bool {
-    let missing = os::errno() == libc::ENOENT;
+fn is_missing(rt: &HostRuntime, name: &[u8], error: io::Error) -> bool {
+    let missing = error.kind() == ErrorKind::NotFound;
     if !missing {
-        os::fail(name);
+        fail(rt, name, error);
     }
     missing
 }
 
 // Whether an open file is a certificate. A pipe or a terminal has no end to be sought.
-fn holds_certificate(fd: i32, name: &[u8]) -> bool {
-    let end = libc::lseek(fd, 0, libc::SEEK_END);
-    if end < 0 {
+fn holds_certificate(rt: &HostRuntime, file: &mut File, name: &[u8]) -> bool {
+    let Ok(end) = file.seek(SeekFrom::End(0)) else {
         tell(
+            rt,
             name,
             b"isn't a regular file, so no certificate is written to it",
         );
         return false;
-    }
-    let certificate = end <= CERTIFICATE as i64 && starts_as_one(fd);
+    };
+    let certificate = end <= CERTIFICATE as u64 && starts_as_one(file);
     if !certificate {
         tell(
+            rt,
             name,
             b"exists and isn't a certificate, so it stays as it is",
         );
@@ -50,10 +58,10 @@ fn holds_certificate(fd: i32, name: &[u8]) -> bool {
     certificate
 }
 
-fn starts_as_one(fd: i32) -> bool {
+fn starts_as_one(file: &mut File) -> bool {
     let mut space = blank_certificate();
-    libc::lseek(fd, 0, libc::SEEK_SET);
-    let n = io::read_full(fd, &mut space);
+    let _ = file.rewind();
+    let (n, _) = fill(file, &mut space);
     has_shape(&space[..n])
 }
 
@@ -65,50 +73,54 @@ fn has_shape(bytes: &[u8]) -> bool {
 }
 
 // Puts the name of what a name leads to at the front of the space, and answers its length.
-pub(crate) fn follow(name: &[u8], space: &mut [u8]) -> usize
-    ensures { IsPrefixLen result space.new }
+pub(crate) fn follow(rt: &HostRuntime, name: &[u8], space: &mut [u8]) -> io::Result<usize>
+    ensures { IfOk result (λ n. IsPrefixLen n space.new) }
 {
     let mut n = put::put_bytes(space, 0, name);
-    let mut left = LINKS;
-    while left > 0 {
-        n = follow_once(space, n);
-        left -= 1;
+    for _ in 0..LINKS {
+        n = follow_once(rt, space, n)?;
     }
-    front(space, n)
+    Ok(front(space, n))
 }
 
 // A link's name is replaced by where it leads: another name, or one beside it.
-fn follow_once(space: &mut [u8], n: usize) -> usize {
-    let mut to = io::buffer();
+fn follow_once(rt: &HostRuntime, space: &mut [u8], n: usize) -> io::Result<usize> {
+    let mut to = [0; NAME];
     let end = front(space, n);
-    let m = leads(&space[..end], &mut to);
+    let m = leads(rt, &space[..end], &mut to)?;
     if m == 0 {
-        return n;
+        return Ok(n);
     }
     let start = beside(&space[..end], &to[..m]);
-    std::num::wrapping_add_usize(start, put::put_bytes(space, start, &to[..m]))
+    Ok(start.wrapping_add(put::put_bytes(space, start, &to[..m])))
 }
 
 // Fills the space with where a link leads, and answers its length; 0 where the name isn't a link's.
-fn leads(name: &[u8], to: &mut [u8]) -> usize
-    ensures { IsPrefixLen result to.new }
+fn leads(rt: &HostRuntime, name: &[u8], to: &mut [u8]) -> io::Result<usize>
+    ensures { IfOk result (λ n. IsPrefixLen n to.new) }
 {
-    if name.len() >= PATH_MAX {
-        return 0;
+    if name.len() >= NAME {
+        return Ok(0);
     }
-    let path = ended(name);
-    let got = libc::readlink(&path, to);
-    io::count(got, to)
+    match fs::read_link(rt, path(name)?) {
+        Ok(link) => {
+            let n = put::put_bytes(to, 0, link.as_str().as_bytes());
+            Ok(front(to, n))
+        }
+        Err(error) if error.raw_os_error().is_some() => Ok(0),
+        Err(error) => Err(unread(error)),
+    }
 }
 
-// As much of a name as leaves room for a 0, and then zeros.
-fn ended(name: &[u8]) -> [u8; PATH_MAX]
-    ensures { Ended result }
-{
-    let mut space = io::buffer();
-    put::put_bytes(&mut space, 0, name);
-    space[PATH_MAX - 1] = 0;
-    space
+// Why std doesn't answer where a link leads: a name that isn't text, or a lack of memory.
+fn unread(error: io::Error) -> io::Error {
+    if error.kind() == ErrorKind::OutOfMemory {
+        return error;
+    }
+    io::Error::new(
+        ErrorKind::InvalidFilename,
+        "leads to a name that isn't UTF-8, so it can't be followed",
+    )
 }
 
 // Where the name that a link leads to begins: at the front, or behind the link's folder.

@@ -1,87 +1,110 @@
 // Saves bytes as a file: they are written under a temporary name beside its place, which is then renamed. So the file is never seen
 // half written, and where there is trouble it stays as it was.
-use crate::{argument, front, place};
+use crate::trouble::{fail, path};
+use crate::{NAME, argument, front, place};
+use std::fs::{File, OpenOptions};
+use std::io::{ErrorKind, Write};
+use std::{fs, io, process};
 
 // Saves a certificate's bytes as the file that an argument names, and answers whether they are saved. Nothing may stand there but a
 // certificate.
-pub fn save_argument(i: usize, bytes: &[u8]) -> bool {
-    let mut name = io::buffer();
-    let filled = argument(i, &mut name);
+pub fn save_argument(rt: &HostRuntime, i: usize, bytes: &[u8]) -> bool {
+    let mut name = [0; NAME];
+    let filled = argument(rt, i, &mut name);
     if filled.trouble {
         return false;
     }
     let n = filled.bytes;
-    place::is_free(&name[..n]) && save_behind_links(&name[..n], bytes)
+    place::is_free(rt, &name[..n]) && save_behind_links(rt, &name[..n], bytes)
 }
 
-fn save_behind_links(name: &[u8], bytes: &[u8]) -> bool {
-    let mut space = io::buffer();
-    let n = place::follow(name, &mut space);
-    save(&space[..n], bytes)
+fn save_behind_links(rt: &HostRuntime, name: &[u8], bytes: &[u8]) -> bool {
+    let mut space = [0; NAME];
+    match place::follow(rt, name, &mut space) {
+        Ok(n) => save(rt, &space[..n], bytes),
+        Err(error) => {
+            fail(rt, name, error);
+            false
+        }
+    }
 }
 
-fn save(name: &[u8], bytes: &[u8]) -> bool {
-    let mut space = io::buffer();
-    let n = put_temporary(&mut space, name);
+fn save(rt: &HostRuntime, name: &[u8], bytes: &[u8]) -> bool {
+    let mut space = [0; NAME];
+    let n = put_temporary(rt, &mut space, name);
     let end = front(&space, n);
-    save_by(&space[..end], name, bytes)
+    save_by(rt, &space[..end], name, bytes)
 }
 
 // The place's name, a full stop and the number of this process, which no other has. A name that is too long for the space can't be
 // opened either.
-fn put_temporary(space: &mut [u8], name: &[u8]) -> usize {
+fn put_temporary(rt: &HostRuntime, space: &mut [u8], name: &[u8]) -> usize {
     let stop = put::put_bytes(space, 0, name);
-    let number = std::num::wrapping_add_usize(stop, put::put_bytes(space, stop, b"."));
-    std::num::wrapping_add_usize(
-        number,
-        decimal::put_decimal(space, number, positive(libc::getpid())),
-    )
+    let number = stop.wrapping_add(put::put_bytes(space, stop, b"."));
+    let process = u64::from(process::id(rt.process()));
+    number.wrapping_add(decimal::put_decimal(space, number, process))
 }
 
-// The number, or 0 if it is negative.
-fn positive(number: i32) -> u64 {
-    if number > 0 { number as u64 } else { 0 }
-}
-
-fn save_by(temporary: &[u8], name: &[u8], bytes: &[u8]) -> bool {
-    let fd = os::create(temporary);
-    if fd < 0 {
-        fail_to_create(temporary, name);
-        return false;
+fn save_by(rt: &HostRuntime, temporary: &[u8], name: &[u8], bytes: &[u8]) -> bool {
+    match create(rt, temporary) {
+        Ok(file) => {
+            if write_whole(rt, file, name, bytes) && renamed(rt, temporary, name) {
+                return true;
+            }
+            let _ = remove(rt, temporary);
+        }
+        Err(error) => fail_to_create(rt, temporary, name, error),
     }
-    let written = write_whole(fd, name, bytes);
-    if written && renamed(temporary, name) {
-        return true;
-    }
-    os::unlink(temporary);
     false
 }
 
+// A new file, where nothing stands, not even a link.
+fn create(rt: &HostRuntime, name: &[u8]) -> io::Result<File> {
+    OpenOptions::new()
+        .write(true)
+        .create_new(true)
+        .open(rt, path(name)?)
+}
+
+fn remove(rt: &HostRuntime, name: &[u8]) -> io::Result<()> {
+    fs::remove_file(rt, path(name)?)
+}
+
 // Only a temporary name that is taken is told: the others tell of the certificate's place.
-fn fail_to_create(temporary: &[u8], name: &[u8]) {
-    if os::errno() == libc::EEXIST {
-        os::fail(temporary);
+fn fail_to_create(rt: &HostRuntime, temporary: &[u8], name: &[u8], error: io::Error) {
+    if error.kind() == ErrorKind::AlreadyExists {
+        fail(rt, temporary, error);
     } else {
-        os::fail(name);
+        fail(rt, name, error);
     }
 }
 
-fn write_whole(fd: i32, name: &[u8], bytes: &[u8]) -> bool {
-    let written = io::write_all(fd, bytes);
-    if !written {
-        os::fail(name);
+// Writes all, and closes the file. What the system has put off is written before: trouble with it shows no later.
+fn write_whole(rt: &HostRuntime, file: File, name: &[u8], bytes: &[u8]) -> bool {
+    match write_through(file, bytes) {
+        Ok(()) => true,
+        Err(error) => {
+            fail(rt, name, error);
+            false
+        }
     }
-    let closed = libc::close(fd) == 0;
-    if written && !closed {
-        os::fail(name);
-    }
-    written && closed
 }
 
-fn renamed(from: &[u8], to: &[u8]) -> bool {
-    let done = os::rename(from, to) == 0;
-    if !done {
-        os::fail(to);
+fn write_through(mut file: File, bytes: &[u8]) -> io::Result<()> {
+    file.write_all(bytes)?;
+    file.sync_all()
+}
+
+fn renamed(rt: &HostRuntime, from: &[u8], to: &[u8]) -> bool {
+    match rename(rt, from, to) {
+        Ok(()) => true,
+        Err(error) => {
+            fail(rt, to, error);
+            false
+        }
     }
-    done
+}
+
+fn rename(rt: &HostRuntime, from: &[u8], to: &[u8]) -> io::Result<()> {
+    fs::rename(rt, path(from)?, path(to)?)
 }

@@ -2,21 +2,20 @@
 #![tactic(auto)]
 
 use circuit::Written;
-use libc::STDIN_FILENO;
 
-fn main() {
+fn main(rt: HostRuntime) {
     let mut space = desk::blank();
-    let filled = desk::read_open(STDIN_FILENO, b"standard input", &mut space);
+    let filled = desk::read_open(&rt, &mut rt.stdin(), b"standard input", &mut space);
     if !filled.trouble {
         let n = filled.bytes;
-        reprint(&space[..n]);
+        reprint(&rt, &space[..n]);
     }
 }
 
-fn reprint(file: &[u8]) {
+fn reprint(rt: &HostRuntime, file: &[u8]) {
     let mut page = desk::blank();
     match printer::print(file, &mut page) {
-        Written::Bytes(n) => desk::print_front(&page, n),
-        Written::Refused(refusal) => desk::print_refusal(refusal),
+        Written::Bytes(n) => desk::print_front(rt, &page, n),
+        Written::Refused(refusal) => desk::print_refusal(rt, refusal),
     }
 }

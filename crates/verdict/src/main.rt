@@ -4,26 +4,25 @@
 ghost use Rattle.std.specs.Prelude.{◌≡◌, length};
 
 use circuit::{Circuit, Written};
-use libc::STDIN_FILENO;
 
 // Enough for every page (listing, `longest_page`): verdict and counts; per state its number, in or out, and a reply of at most three digits
 // for each reading, with what parts them.
 const PAGE: usize = 18 + Circuit::STATES * 7 + Circuit::REPLIES * 4;
 
-fn main() {
+fn main(rt: HostRuntime) {
     let mut space = desk::blank();
-    let filled = desk::read_open(STDIN_FILENO, b"standard input", &mut space);
+    let filled = desk::read_open(&rt, &mut rt.stdin(), b"standard input", &mut space);
     if !filled.trouble {
         let n = filled.bytes;
-        print_page(&space[..n]);
+        print_page(&rt, &space[..n]);
     }
 }
 
-fn print_page(file: &[u8]) {
+fn print_page(rt: &HostRuntime, file: &[u8]) {
     let mut page = blank();
     match listing::list(file, &mut page) {
-        Written::Bytes(n) => desk::print_front(&page, n),
-        Written::Refused(refusal) => desk::print_refusal(refusal),
+        Written::Bytes(n) => desk::print_front(rt, &page, n),
+        Written::Refused(refusal) => desk::print_refusal(rt, refusal),
     }
 }
 
