@@ -3,7 +3,6 @@ use Rattle.std.specs.Prelude.{ℕ, ◌*◌, ◌/◌, ◌%◌, Bool, not, ◌&&�
 use Rattle.below.specs.Least.{least, any, every}
 use Rattle.circuit.specs.Circuit.{Circuit, latch_count, uncontrollable_count, controllable_count}
 use Rattle.circuit.specs.Reset.{is_reset}
-use Rattle.game.specs.Game.{Game}
 use Rattle.game.specs.Attack.{attack_broken}
 use Rattle.game.specs.CircuitGame.{circuit_game}
 use Rattle.game.specs.Reply.{reply_broken}

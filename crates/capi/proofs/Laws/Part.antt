@@ -1,9 +1,9 @@
 -- The circuit record by its place: behind the first head, as long as its contents. Assumes nothing.
-use Prim.Native.Nat.{ℕ, ◌-◌, min}
+use Prim.Native.Nat.{ℕ, ◌-◌}
 use native.Mathlib.Omega.{arith}
 use mathlib.Core.Bool.{Bool, true, false, cond}
 use mathlib.Core.List.{List}
-use mathlib.Core.Path.{◌≡◌, refl, sym, ap, ◌∙◌}
+use mathlib.Core.Path.{◌≡◌, sym, ap, ◌∙◌}
 use lib.Dec.{eqb}
 use lib.ListN.{length, take, drop, length-take, length-drop}
 use Rattle.records.specs.Record.{cut, split, circuit_kind}

@@ -12,7 +12,6 @@ use Rattle.checker.proofs.Laws.ReadPassed.{passed_kind}
 use Rattle.circuit.specs.Answer.{WrittenAs, written_outcome, count_of, buffer_after}
 use Rattle.circuit.specs.Circuit.{Circuit, latch_count, uncontrollable_count, controllable_count}
 use Rattle.circuit.specs.Outcome.{Outcome, taken, refused, ◌>>=◌}
-use Rattle.circuit.specs.declared.Written.{Written}
 use Rattle.circuit.specs.declared.Written.TheVariants.{Bytes}
 use Rattle.file.specs.CircuitIn.{circuit_in}
 use Rattle.file.proofs.Laws.Numbered.{file_numbered, writer_numbered}

@@ -1,5 +1,5 @@
 -- `rules::some_keeps` meets its contract: none of the lanes passed keeps. Assumes nothing.
-use Prim.Native.Nat.{◌-◌, min}
+use Prim.Native.Nat.{min}
 use mathlib.Core.Path.{sym, ◌∙◌}
 use Rattle.blocks.specs.Lane.{width}
 use Rattle.rules.proofs.Laws.Lanes.{tried_start, tried_next, tried_kept, tried_end}

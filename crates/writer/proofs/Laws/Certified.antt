@@ -21,7 +21,6 @@ use Rattle.records.specs.AttackTable.{attack_bytes}
 use Rattle.records.specs.Record.{record_of, circuit_kind, region_kind, attack_kind}
 use Rattle.records.specs.RegionBits.{region_bytes}
 use Rattle.records.specs.ReplyTable.{table_bytes}
-use Rattle.writer.specs.declared.Certified.{Certified}
 use Rattle.writer.specs.declared.Certified.TheVariants.{Realizable, Unrealizable, Refused}
 use Rattle.writer.specs.Answer.{Verdict, certified_outcome, certificate_for, verdict_for, CertifiedAs}
 use Rattle.writer.specs.Certificate.{reply_certificate, attack_certificate, certificate_of}

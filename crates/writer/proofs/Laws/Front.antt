@@ -7,7 +7,7 @@ use Rattle.circuit.specs.Circuit.{Circuit}
 use Rattle.circuit.specs.declared.FileRead.{FileRead}
 use Rattle.circuit.specs.declared.Read.TheVariants.{Taken, Refused as ReadRefused}
 use Rattle.circuit.specs.declared.Refusal.{Refusal}
-use Rattle.circuit.specs.Outcome.{Outcome, taken, refused, ◌>>=◌}
+use Rattle.circuit.specs.Outcome.{Outcome, taken}
 use Rattle.circuit.specs.Stored.{meant, solvable}
 use Rattle.file.specs.CircuitIn.{circuit_in}
 use Rattle.file.proofs.Laws.Read.{Means, taken_means, refused_means}

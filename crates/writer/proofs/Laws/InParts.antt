@@ -2,10 +2,8 @@
 use Prim.Native.Nat.{ℕ, ◌+◌, ◌*◌, ◌/◌, ◌^◌, ◌<◌, ◌≤◌}
 use native.Mathlib.Omega.{arith}
 use mathlib.Core.List.{List}
-use mathlib.Core.Path.{◌≡◌, refl, sym, ap, ap₂, ◌∙◌, subst}
+use mathlib.Core.Path.{◌≡◌, refl, ap, subst}
 use lib.ListN.{length, get_or}
-use lib.Pow.{pow-add}
-use Rattle.below.specs.Table.{table}
 use Rattle.bits.specs.InTurn.{in_turn}
 use Rattle.bits.specs.Wrote.{Wrote}
 use Rattle.circuit.specs.Answer.{no_room}

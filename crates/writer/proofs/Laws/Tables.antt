@@ -1,20 +1,16 @@
 -- What the code writes for a solved circuit are the tables of its certificate: the region of the states of rank 0, the replies, and the
 -- ranks with the attacks. Assumes nothing.
-use Prim.Native.Nat.{ℕ, ◌+◌, ◌*◌, ◌/◌, ◌%◌, ◌^◌, ◌<◌, ◌≤◌}
+use Prim.Native.Nat.{ℕ, ◌*◌, ◌/◌, ◌%◌, ◌^◌, ◌<◌, ◌≤◌}
 use native.Mathlib.Nat.{mul-le-mul}
-use native.Mathlib.Decide.{dec_lt}
 use native.Mathlib.Omega.{arith}
-use mathlib.Core.Bool.{Bool, not, ◌&&◌}
+use mathlib.Core.Bool.{not}
 use mathlib.Core.List.{List, [], ◌∷◌, ◌++◌, flat_map}
 use mathlib.Core.Path.{◌≡◌, sym, ap, ap₂, ◌∙◌}
 use lib.Dec.{ltb}
 use lib.ListN.{get_or, take}
 use lib.Pow.{pow-add}
-use borrow.Author.Tests.{le-ltb}
 use Rattle.below.specs.Table.{table}
-use Rattle.below.proofs.Laws.Table.{table_same}
-use Rattle.bits.specs.Bit.{one_if}
-use Rattle.bits.specs.Digits.{digits, sum}
+use Rattle.bits.specs.Digits.{digits}
 use Rattle.bits.specs.InTurn.{in_turn}
 use Rattle.bits.proofs.Laws.InTurn.{in_turn_same}
 use Rattle.circuit.specs.Circuit.{Circuit, latch_count, uncontrollable_count}

@@ -1,5 +1,5 @@
 -- `checker::attacks::broken_attack` meets its contract: no attack of the states passed breaks the rule. Assumes nothing.
-use Prim.Native.Nat.{ℕ, ◌-◌, ◌^◌, ◌≤◌}
+use Prim.Native.Nat.{ℕ, ◌^◌, ◌≤◌}
 use native.Mathlib.Omega.{arith}
 use mathlib.Core.Path.{sym, ap, ◌∙◌}
 use lib.Pow.{pow_mono}

@@ -1,6 +1,6 @@
 -- `checker::replies::broken_reply` meets its contract: no reply of the places passed breaks the rule, and the words hold the block that was
 -- evaluated last. Assumes nothing.
-use Prim.Native.Nat.{ℕ, ◌+◌, ◌-◌, ◌^◌, ◌<◌}
+use Prim.Native.Nat.{ℕ, ◌+◌, ◌^◌, ◌<◌}
 use native.Mathlib.Omega.{arith}
 use mathlib.Core.Path.{◌≡◌, sym, ap, ◌∙◌, subst}
 use Rattle.below.specs.Least.{least}

@@ -1,5 +1,4 @@
 -- `writer::tables::put_attacks` writes ranks and attacks: each turn one more row behind those before it. Assumes nothing.
-use Prim.Native.Nat.{◌-◌}
 use native.Mathlib.Omega.{arith}
 use lib.ListN.{get_or}
 use Rattle.keeping.specs.RankList.{ranks_in}
