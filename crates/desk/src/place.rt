@@ -1,5 +1,5 @@
 // A certificate's place. Links are followed, and a file that stands there is replaced only if it is a certificate: any other stays.
-ghost use Rattle.std.specs.Prelude.{IfOk};
+ghost use Rattle.std.specs.Prelude.{◌≡◌, length, IfOk};
 ghost use Rattle.desk.specs.Counts.{IsPrefixLen};
 
 use crate::trouble::{fail, path};
@@ -72,9 +72,10 @@ fn has_shape(bytes: &[u8]) -> bool {
     }
 }
 
-// Puts the name of what a name leads to at the front of the space, and answers its length.
+// Puts the name of what a name leads to at the front of the space, and answers its length. After an error the space has any bytes.
 pub(crate) fn follow(rt: &HostRuntime, name: &[u8], space: &mut [u8]) -> io::Result<usize>
-    ensures { IfOk result (λ n. IsPrefixLen n space.new) }
+    ensures ok { IfOk result (λ n. IsPrefixLen n space.new) }
+    ensures kept { length space.new ≡ length space.old }
 {
     let mut n = put::put_bytes(space, 0, name);
     for _ in 0..LINKS {
@@ -97,7 +98,8 @@ fn follow_once(rt: &HostRuntime, space: &mut [u8], n: usize) -> io::Result<usize
 
 // Fills the space with where a link leads, and answers its length; 0 where the name isn't a link's.
 fn leads(rt: &HostRuntime, name: &[u8], to: &mut [u8]) -> io::Result<usize>
-    ensures { IfOk result (λ n. IsPrefixLen n to.new) }
+    ensures ok { IfOk result (λ n. IsPrefixLen n to.new) }
+    ensures kept { length to.new ≡ length to.old }
 {
     if name.len() >= NAME {
         return Ok(0);
