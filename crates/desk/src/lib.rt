@@ -122,7 +122,9 @@ fn open(rt: &HostRuntime, name: &[u8]) -> io::Result<fs::File> {
 
 // Fills the space with what an open file or another reader gives, as far as it goes.
 pub fn read_open<R: Read>(rt: &HostRuntime, reader: &mut R, name: &[u8], space: &mut [u8]) -> Filled
-    ensures { IsPrefixLen result.«bytes» space.new }
+    ensures prefix_len { IsPrefixLen result.«bytes» space.new }
+    ensures known { Consumes (R.remaining reader.old) (R.remaining reader.new) (take result.«bytes» space.new) }
+    ensures end { result.trouble ≡ false → result.«bytes» < length space.new → IsAtEnd (R.remaining reader.new) }
 {
     let (n, ended) = fill(reader, space);
     match ended {
