@@ -43,7 +43,8 @@ module _ {ℓ} {A : Type ℓ} where
 
   -- what is left of a table at a place: what stands there, and what is left behind it
   pub drop_table : (f : ℕ → A) (n i : ℕ) → i < n → drop i (table f n) ≡ f i ∷ drop (suc i) (table f n)
-  drop_table f n i h = drop-cons (table f n) i (f i) (omega (arith, length_table f n)) ∙ ap (λ (a : A). a ∷ drop (suc i) (table f n)) (get_or_table f n i (f i) h)
+  drop_table f n i h = drop-cons (table f n) i (f i) (omega (arith, length_table f n)) ∙ ap (λ (a : A). a ∷ drop (suc i) (table f n))
+      (get_or_table f n i (f i) h)
 
   pub drop_table_all : (f : ℕ → A) (n i : ℕ) → n ≤ i → drop i (table f n) ≡ []
   drop_table_all f n i h = drop_of_length-le (table f n) {i = i} (omega (arith, length_table f n))

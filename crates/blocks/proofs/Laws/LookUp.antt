@@ -19,7 +19,8 @@ use Rattle.blocks.specs.Lane.{Truths}
 module _ (net : List ℕ) where
   pub first_gate_lem : (c u l : ℕ) → c ≡ get_or net 0 0 → u ≡ get_or net 1 0 → l ≡ get_or net 2 0 → min (1 + c + u + l) variables ≡ first_gate net
   unfolding first_gate move_bits net_controls net_readings net_latches
-  first_gate_lem c u l a b d = ap (λ (n : ℕ). min n variables) {x = 1 + c + u + l} {y = suc (get_or net 0 0 + get_or net 1 0 + get_or net 2 0)} (omega (arith, a, b, d))
+  first_gate_lem c u l a b d = ap (λ (n : ℕ). min n variables) {x = 1 + c + u + l} {y = suc (get_or net 0 0 + get_or net 1 0 + get_or net 2 0)}
+      (omega (arith, a, b, d))
 
   pub first_gate_few : first_gate net ≤ variables
   unfolding first_gate

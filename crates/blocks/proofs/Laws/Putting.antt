@@ -82,7 +82,10 @@ first_none val lits = fun_ext (λ l. rw (le-leb 0 (variable l) (omega arith)))
 pub first_more : (v : ℕ) (b : Bool) (val : Valuation) (lits : Truths) → b ≡ val v → put_both v b (put_first v val lits) ≡ put_first (v + 1) val lits
 unfolding put_both put_first
 first_more v b val lits e = fun_ext
-    (λ l. elim (ℕ_discrete (variable l) v) [ yes q ↦ here l q | no d ↦ elim (dec_lt (variable l) v) [ yes h ↦ before l d h | no h ↦ behind l d (omega arith) ] ])
+    (λ l. elim (ℕ_discrete (variable l) v) [
+      | yes q ↦ here l q
+      | no d ↦ elim (dec_lt (variable l) v) [ yes h ↦ before l d h | no h ↦ behind l d (omega arith) ]
+    ])
   where
     here : (l : ℕ) → variable l ≡ v → cond (eqb (variable l) v) (cond (inverted l) (not b) b)
         (cond (leb v (variable l)) (lits l) (cond (inverted l) (not (val (variable l))) (val (variable l)))) ≡ cond (leb (v + 1) (variable l)) (lits l)

@@ -20,7 +20,8 @@ returns-in_default c =
 pub returns-then-kind-ne-CIRCUIT : goal.returns-then-kind-ne-CIRCUIT
 returns-then-kind-ne-CIRCUIT c =
     let bytes = c.args.certificate.now in
-    c.nothing-then-kind-ne-CIRCUIT.ensures ∙ part-other bytes _ _ _ (found (goal.at.returns-then-kind-ne-CIRCUIT c).In-Whole) (ne_eqb _ 1 c.if-kind-ne-CIRCUIT.true)
+    c.nothing-then-kind-ne-CIRCUIT.ensures ∙ part-other bytes _ _ _ (found (goal.at.returns-then-kind-ne-CIRCUIT c).In-Whole)
+    (ne_eqb _ 1 c.if-kind-ne-CIRCUIT.true)
 
 pub overflow_sub-contents : goal.overflow_sub-contents
 overflow_sub-contents c = (found (goal.at.overflow_sub-contents c).In-Whole).ordered

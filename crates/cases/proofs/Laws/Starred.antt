@@ -25,7 +25,8 @@ use Rattle.text.specs.Read.{or_bad_header, lines_read, file_read, circuit_read}
 use Rattle.text.specs.Rules.{first_of, bad_own, is_defined, unknown, any_unknown, input_rule, latch_rule, output_rule, gate_rule}
 use Rattle.text.specs.Section.{judged, with_row, section, onward, used}
 use Rattle.text.specs.Stages.{circled}
-use Rattle.text.specs.Symbol.{positions, is_name_byte, is_name, names, symbol_at, symbol_of, is_comment, or_bad_symbol, symbol_lines, is_controllable_name, is_controllable}
+use Rattle.text.specs.Symbol.{positions, is_name_byte, is_name, names, symbol_at, symbol_of, is_comment, or_bad_symbol, symbol_lines, is_controllable_name}
+use Rattle.text.specs.Symbol.{is_controllable}
 use Rattle.text.specs.TextFile.{circuit_of}
 use Rattle.text.specs.Written.{number_line}
 use Rattle.step.specs.Step.{error_of, next_of, step}
@@ -54,14 +55,19 @@ use Rattle.cases.specs.Starred.{Row, starred}
 pub starred_hold : map (λ (row : Row). answer_to row.asked) starred ≡ map (λ (row : Row). row.expected) starred
 unfolding flat_map bit odd one_if byte_bit same_bytes starts_with digits sum among member least any every table inputs_that latch_count uncontrollable_count
     controllable_count variable inverted constant may_define too_large refuse_if is_reset header_numbers header_of within_limits before lines prepend fields
-    separators numbers_of is_digit run is_numeral decimal_value number latch_of gate_of or_bad_header lines_read file_read circuit_read first_of bad_own is_defined
-    unknown any_unknown input_rule latch_rule output_rule gate_rule judged with_row section onward used gate_at definer uses_of circled lowest_circle meets_itself
+    separators numbers_of is_digit run is_numeral decimal_value number latch_of gate_of or_bad_header lines_read file_read circuit_read first_of bad_own
+    is_defined
+    unknown any_unknown input_rule latch_rule output_rule gate_rule judged with_row section onward used gate_at definer uses_of circled lowest_circle
+    meets_itself
     from marked waits visit visits placed order_of place_in evaluation evaluated positions is_name_byte is_name names symbol_at symbol_of is_comment
-    or_bad_symbol symbol_lines is_controllable_name is_controllable circuit_of too_many error_of next_of step literal_value put with_inputs with_latches with_gates
+    or_bad_symbol symbol_lines is_controllable_name is_controllable circuit_of too_many error_of next_of step literal_value put with_inputs with_latches
+    with_gates
     valuation attack attack_broken circuit_game is_realizable keeps answered safe reply_line attack_line listing_of not_ranked defeats defeated round
     ranks_after rank in_region reply reply_broken realizable attack_length stored_rank stored_attack attack_bytes record_of contents_length split region_length
-    holds_state unused_bit_set unused_bit bit_byte bit_bytes region_bytes reply_length byte_reply reply_bytes table_length stored_reply unused_reply_bit table_bytes
-    third_of second_of first_record tables_of circuit_part circuit_in or_bad_shape or_retired tables_checked chain_of check_of bad_reply_tables bad_attack_table reset_outside
+    holds_state unused_bit_set unused_bit bit_byte bit_bytes region_bytes reply_length byte_reply reply_bytes table_length stored_reply unused_reply_bit
+    table_bytes
+    third_of second_of first_record tables_of circuit_part circuit_in or_bad_shape or_retired tables_checked chain_of check_of bad_reply_tables
+    bad_attack_table reset_outside
     reset_unranked broken_reply broken_attack reply_certificate attack_certificate certificate_of certified decimal_within decimal number_line verdict_word
     listing_text refusal_text page_for page_of lengths_of answer_to
 starred_hold = refl

@@ -102,7 +102,8 @@ module _ (file certificate : List ℕ) where
     differ : (t : Tables) → same_bytes (circuit_part t) file ≡ false → circuit_part t ≡ file → ⊥
     differ t e f = true≢false (sym (same_bytes_refl file) ∙ sym (ap (λ (l : List ℕ). same_bytes l file) f) ∙ e)
 
-    same_said : (t : Tables) → tables_of accepted_kinds certificate ≡ some t → (b : Bool) → same_bytes (circuit_part t) file ≡ b → Rowed (check_of file certificate)
+    same_said : (t : Tables) → tables_of accepted_kinds certificate ≡ some t → (b : Bool) → same_bytes (circuit_part t) file ≡ b → Rowed
+        (check_of file certificate)
     same_said t shape false e = subst Rowed (sym (other_refused file certificate c read t shape e)) (twelve refl refl c read t shape (differ t e))
     same_said t shape true e =
         subst Rowed (sym (same_goes_on file certificate c read t shape e))

@@ -89,7 +89,8 @@ module _ (c : Circuit) (net : List ℕ) (is : net ≡ net_of c) where
     unfolding broken_attack attack_fault circuit_game net_of net_latches
     broken_attack-is =
         ap (λ (m : List ℕ). least (attack_fault m table) (2 ^ net_latches m)) is
-        ∙ ap (λ (g : Game). least (attack_broken g (stored_rank table (latch_count c)) (stored_attack table (latch_count c))) (2 ^ latch_count c)) (net_game_lem c)
+        ∙ ap (λ (g : Game). least (attack_broken g (stored_rank table (latch_count c)) (stored_attack table (latch_count c))) (2 ^ latch_count c))
+        (net_game_lem c)
 
 module _ (net table : List ℕ) (s L rank : ℕ) (latches : L ≡ net_latches net) (ranked : rank ≡ stored_rank table L s) where
   abbrev defeated : (rank attack : ℕ) → Bool
@@ -98,11 +99,13 @@ module _ (net table : List ℕ) (s L rank : ℕ) (latches : L ≡ net_latches ne
   rank_is : rank ≡ stored_rank table (net_latches net) s
   rank_is = ranked ∙ ap (λ (n : ℕ). stored_rank table n s) latches
 
-  attack-is : (ltb 0 rank && not (ltb (stored_attack table (net_latches net) s) (2 ^ net_readings net) && defeated rank (stored_attack table (net_latches net) s)))
+  attack-is : (ltb 0 rank && not (ltb (stored_attack table (net_latches net) s) (2 ^ net_readings net) && defeated rank
+      (stored_attack table (net_latches net) s)))
       ≡ attack_fault net table s
   unfolding attack_fault attack_broken net_game
   attack-is =
-      ap (λ (k : ℕ). ltb 0 k && not (ltb (stored_attack table (net_latches net) s) (2 ^ net_readings net) && defeated k (stored_attack table (net_latches net) s)))
+      ap (λ (k : ℕ). ltb 0 k && not (ltb (stored_attack table (net_latches net) s) (2 ^ net_readings net) && defeated k
+      (stored_attack table (net_latches net) s)))
       rank_is
 
   pub unranked_no_fault : rank < 1 → false ≡ attack_fault net table s

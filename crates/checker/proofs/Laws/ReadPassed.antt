@@ -247,7 +247,8 @@ module _ (file certificate : List ℕ) (c : Circuit) (read : circuit_in file ≡
         kind ≡ packed_kind → (s r : ℕ)
         → stored_reply kind replies_on L U C s r
         ≡ packed_reply replies_on (min L base.latches) (min U base.uncontrollable) (min C base.controllable) s r
-    packed_read e s r = stored_packed kind replies_on L U C s r e ∙ λ i. packed_reply replies_on (few_latches_lem i) (few_readings_lem i) (few_controls_lem i) s r
+    packed_read e s r = stored_packed kind replies_on L U C s r e ∙ λ i. packed_reply replies_on (few_latches_lem i) (few_readings_lem i) (few_controls_lem i)
+        s r
 
     -- for every finite run of readings a reply is read, the error is 0 and the state stays in the region that is read
     pub replies_hold_as_read :

@@ -37,7 +37,8 @@ module _ (file net certificate : List ℕ) (given : FileNet file net) where
         sym (answer_told file certificate c given.read (refused other_circuit 0) (other_refused file certificate c given.read t shape f))
 
     -- the tables are judged, and where they start is told
-    same : same_bytes (circuit_part t) file ≡ true → (starts : Starts) → starts ≡ starts_of c t → (tables_checked c t >> taken starts) ≡ answer_of file certificate
+    same : same_bytes (circuit_part t) file ≡ true → (starts : Starts) → starts ≡ starts_of c t → (tables_checked c t >> taken starts) ≡ answer_of file
+        certificate
     same f starts e =
         ap (λ (u : Starts). tables_checked c t >> taken u) e ∙ sym (tables_then (λ u. taken (starts_of c u)) c t)
         ∙ sym (answer_told file certificate c given.read (tables_checked c t) (same_goes_on file certificate c given.read t shape f))

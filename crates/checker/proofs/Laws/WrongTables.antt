@@ -117,7 +117,8 @@ reset_not_held c region = (
       let (zero_is, out) = both_true (eqb (least p n) 0) (not (holds_state region (latch_count c) (least p n))) (any_holds p n e) in
       let there : holds_state region (latch_count c) 0 ≡ false = ap (holds_state region (latch_count c)) (sym (eqb-true _ 0 zero_is)) ∙ not-true _ out in
       test-fails _ (holds_state_lem region (latch_count c) 0 (pow_pos (latch_count c))) there,
-  λ other. any_of p (2 ^ latch_count c) 0 (pow_pos (latch_count c)) (ap not (fails-test _ (holds_state_lem region (latch_count c) 0 (pow_pos (latch_count c))) other)),
+  λ other. any_of p (2 ^ latch_count c) 0 (pow_pos (latch_count c)) (ap not
+      (fails-test _ (holds_state_lem region (latch_count c) 0 (pow_pos (latch_count c))) other)),
 )
   where
     p : ℕ → Bool

@@ -28,7 +28,8 @@ slice_bounds-same_bytes-end c = (reply_lies (goal.at.slice_bounds-same_bytes-end
 pub returns-then-not-same_bytes : goal.returns-then-not-same_bytes
 unfolding checked_outcome
 returns-then-not-same_bytes c =
-    replies_of_other c.args.file.now c.args.net.now c.args.certificate.now c.requires _ _ _ _ _ _ (reply_lies (goal.at.returns-then-not-same_bytes c).In-Replies)
+    replies_of_other c.args.file.now c.args.net.now c.args.certificate.now c.requires _ _ _ _ _ _
+    (reply_lies (goal.at.returns-then-not-same_bytes c).In-Replies)
     (sym c.same_bytes.ensures ∙ c.if-not-same_bytes.true)
 
 pub slice_bounds-check_replies-count : goal.slice_bounds-check_replies-count

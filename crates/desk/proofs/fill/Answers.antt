@@ -19,7 +19,8 @@ middle : (a k n : ℕ) (xs ys : List ℕ) → a ≤ length xs → n ≤ length y
 middle a k n xs ys within fits =
     let same : (a + n) - a ≡ n = omega arith in
     let after = post_of a k xs in
-    ap (take ((a + n) - a)) (drop_at (take a xs) (ys ++ after) a (length-take-le a xs within)) ∙ ap (λ m. take m (ys ++ after)) same ∙ take-append-le n ys after fits
+    ap (take ((a + n) - a)) (drop_at (take a xs) (ys ++ after) a (length-take-le a xs within)) ∙ ap (λ m. take m (ys ++ after)) same ∙ take-append-le n ys
+    after fits
 
 pub loop-n-preserved : goal.loop-n-preserved
 loop-n-preserved g c =
@@ -27,8 +28,10 @@ loop-n-preserved g c =
     let room = length c.loop-n.space - from in
     let within = c.loop-n.invariant.within in
     let part = middle from room c.in-Ok.more c.loop-n.space c.read.new.buf within c.in-Ok.ensures.bound.0 in
-    let joined = front_longer from (from + c.in-Ok.more) c.loop-n.space (put_mid from room c.loop-n.space c.read.new.buf) (omega arith) (take-put_mid_below _ _ _ _ _ (le_refl _) within) in
+    let joined = front_longer from (from + c.in-Ok.more) c.loop-n.space (put_mid from room c.loop-n.space c.read.new.buf) (omega arith)
+    (take-put_mid_below _ _ _ _ _ (le_refl _) within) in
     record {
       within = search rules;
-      known = subst (Consumes _ _) (ap (λ l. take from c.loop-n.space ++ l) (sym part) ∙ joined) (Consumes-trans _ _ _ _ _ c.loop-n.invariant.known c.in-Ok.ensures.bytes.0);
+      known = subst (Consumes _ _) (ap (λ l. take from c.loop-n.space ++ l) (sym part) ∙ joined)
+          (Consumes-trans _ _ _ _ _ c.loop-n.invariant.known c.in-Ok.ensures.bytes.0);
     }

@@ -27,7 +27,8 @@ module _ (prefix s : List ℕ) (at i : ℕ) where
       next : suc (at + i) ≡ at + (i + 1)
       next = omega arith
 
-  pub prefix_differs : i < length prefix → at + i < length s → (get_or s (at + i) 0 ≡ get_or prefix i 0 → ⊥) → starts_with (drop i prefix) (drop (at + i) s) ≡ false
+  pub prefix_differs : i < length prefix → at + i < length s → (get_or s (at + i) 0 ≡ get_or prefix i 0 → ⊥) → starts_with (drop i prefix) (drop (at + i) s)
+      ≡ false
   unfolding starts_with
   prefix_differs h l e = rw (drop-cons prefix i 0 h, drop-cons s (at + i) 0 l, ne_eqb (get_or prefix i 0) (get_or s (at + i) 0) (λ q. e (sym q)))
 
@@ -47,7 +48,8 @@ prefix_past (p ∷ ps) s at h = rw (drop_of_length-le s {i = at} (omega arith)) 
 
 -- the end of a name
 module _ (s : List ℕ) (i : ℕ) where
-  pub name_goes_on : i < length s → 32 ≤ get_or s i 0 → get_or s i 0 ≤ 126 → length (run is_name_byte (drop i s)) ≡ suc (length (run is_name_byte (drop (suc i) s)))
+  pub name_goes_on : i < length s → 32 ≤ get_or s i 0 → get_or s i 0 ≤ 126 → length (run is_name_byte (drop i s)) ≡ suc
+      (length (run is_name_byte (drop (suc i) s)))
   unfolding is_name_byte
   name_goes_on h low high = rw (run_goes_on is_name_byte s i h (rw (le-leb 32 (get_or s i 0) low, le-leb (get_or s i 0) 126 high)))
 

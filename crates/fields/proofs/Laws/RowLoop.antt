@@ -128,7 +128,8 @@ module _ (s : List ℕ) (at i k : ℕ) (numbers : List ℕ) (w : Reading s at i 
         }
 
 -- five numbers, one by one
-pub five_cells : (numbers : List ℕ) → length numbers ≡ 5 → numbers ≡ get_or numbers 0 0 ∷ get_or numbers 1 0 ∷ get_or numbers 2 0 ∷ get_or numbers 3 0 ∷ get_or numbers
+pub five_cells : (numbers : List ℕ) → length numbers ≡ 5 → numbers ≡ get_or numbers 0 0 ∷ get_or numbers 1 0 ∷ get_or numbers 2 0 ∷ get_or numbers 3 0 ∷ get_or
+    numbers
     4 0 ∷ []
 five_cells [] e = absurd (omega arith)
 five_cells (a ∷ []) e = absurd (omega arith)

@@ -103,7 +103,8 @@ module _ (g : Game) (proper : Proper g) where
     where
       none_at_zero : (r : ℕ → ℕ) → not_ranked r 0 s ≡ true
       none_at_zero r = elim (dec_lt 0 (r s)) [ yes l ↦ unranked_above r 0 s l | no l ↦ unranked_zero r 0 s (omega arith) ]
-  same_ranked ranks other these those (suc k) s h = by (not_ranked ranks (suc k) s) (not_ranked other (suc k) s) refl refl (same_ranked ranks other these those k)
+  same_ranked ranks other these those (suc k) s h = by (not_ranked ranks (suc k) s) (not_ranked other (suc k) s) refl refl
+      (same_ranked ranks other these those k)
     where
       over : (a b : ℕ → ℕ) → AreRanks g a → AreRanks g b → ((t : ℕ) → t < g.states → not_ranked a k t ≡ not_ranked b k t)
           → not_ranked a (suc k) s ≡ false → not_ranked b (suc k) s ≡ true → ⊥

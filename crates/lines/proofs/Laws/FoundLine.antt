@@ -26,7 +26,8 @@ lined_malformed : (largest : ℕ) (rule : Rule) (marks line : List ℕ) → numb
 lined_malformed largest rule marks line e defined place says = judged_malformed rule defined place (numbers_of rule.count line) e
 
 -- a line of a kind has as many numbers as its rule says
-kind_count : (k : Kind) (M : ℕ) → ((form_of k).fewest ≡ (rule_of k M).count) × ((form_of k).most ≡ (rule_of k M).count) × (1 ≤ (form_of k).fewest) × ((form_of k).most ≤ 5)
+kind_count : (k : Kind) (M : ℕ) → ((form_of k).fewest ≡ (rule_of k M).count) × ((form_of k).most ≡ (rule_of k M).count) × (1 ≤ (form_of k).fewest) ×
+    ((form_of k).most ≤ 5)
 unfolding input_rule latch_rule output_rule gate_rule
 kind_count Input M = (refl, refl, omega arith, omega arith)
 kind_count Latch M = (refl, refl, omega arith, omega arith)
@@ -126,7 +127,8 @@ module _ (k : Kind) (M : ℕ) (marks line : List ℕ) (n a b c d e : ℕ) (row :
   are : numbers_of (rule_of k M).count line ≡ some (take (rule_of k M).count (a ∷ b ∷ c ∷ []))
   are = subst (λ (m : ℕ). numbers_of m line ≡ some (take m (a ∷ b ∷ c ∷ d ∷ e ∷ []))) count-is row.is ∙ ap some (front (rule_of k M).count (few k))
 
-  pub kind_faulty : (number : ℕ) → number ≡ number_or (fault_of (form_of k) M marks a b c) → (number ≡ 0 → ⊥) → LinedAs M (rule_of k M) marks line (Fault number)
+  pub kind_faulty : (number : ℕ) → number ≡ number_or (fault_of (form_of k) M marks a b c) → (number ≡ 0 → ⊥) → LinedAs M (rule_of k M) marks line
+      (Fault number)
   unfolding fault_of
   kind_faulty number says h defined place m =
       judged_faulty (rule_of k M) defined place (numbers_of (rule_of k M).count line) (take (rule_of k M).count (a ∷ b ∷ c ∷ [])) are number

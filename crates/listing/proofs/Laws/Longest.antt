@@ -135,7 +135,8 @@ module _ (c : Circuit) where
   abbrev counts_line : List ℕ
   counts_line = number_line (latch_count c ∷ uncontrollable_count c ∷ controllable_count c ∷ [])
 
-  text_long : length (listing_text (listing_of c)) ≡ length (verdict_word (is_realizable c)) + length counts_line + length (lines_of (circuit_game c) (is_realizable c))
+  text_long : length (listing_text (listing_of c)) ≡ length (verdict_word (is_realizable c)) + length counts_line + length
+      (lines_of (circuit_game c) (is_realizable c))
   unfolding listing_text listing_of
   text_long = lengths (verdict_word (is_realizable c)) counts_line (lines_of (circuit_game c) (is_realizable c))
 

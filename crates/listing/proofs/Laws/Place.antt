@@ -112,6 +112,9 @@ refusal_small file number place e = by ((refused_exactly base file number place)
     by (one n p a) = (omega arith, omega arith)
     by (two n p a b) = (omega arith, omega arith)
     by (three n p a h t w) = (omega arith, omega arith)
-    by (four_to_eight h b k) =
-        (small (body_range h (drop 1 (lines file)) number place k).1, omega (arith, body-place h (drop 1 (lines file)) b.within number place k, length-drop 1 (lines file), lines_few file, b.short))
+    by (four_to_eight h b k) = (
+      small (body_range h (drop 1 (lines file)) number place k).1,
+      omega
+          (arith, body-place h (drop 1 (lines file)) b.within number place k, length-drop 1 (lines file), lines_few file, b.short),
+    )
     by (nine n p f r t) = (omega arith, omega arith)

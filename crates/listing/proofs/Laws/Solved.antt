@@ -99,7 +99,8 @@ module _ (c : Circuit) (few : latch_count c ≤ base.latches) (narrow : uncontro
   unfolding circuit_game
   readings_are_lem = numbers-whole (uncontrollable_count c) (omega (arith, narrow))
 
-  solved_listing : solved_text (counts_of c) (rank_table (circuit_game c)) (reply_table (circuit_game c)) (attack_table (circuit_game c)) ≡ listing_text (listing_of c)
+  solved_listing : solved_text (counts_of c) (rank_table (circuit_game c)) (reply_table (circuit_game c)) (attack_table (circuit_game c)) ≡ listing_text
+      (listing_of c)
   unfolding solved_text listing_text listing_of counts_of
   solved_listing =
       rw (verdict-is, states_are_lem, readings_are_lem)

@@ -71,25 +71,49 @@ nexts_kept :
 nexts_kept c = search rules
 
 pub name_inputs-requires : goal.name_inputs-requires
-name_inputs-requires c = record { variable_in_bounds = search rules; inputs_in_bounds = search rules; inputs_le_inputs = search rules; controls_le_inputs = few_controls_lem (goal.at.name_inputs-requires c).After-controls_of-controls }
+name_inputs-requires c = record {
+  variable_in_bounds = search rules;
+  inputs_in_bounds = search rules;
+  inputs_le_inputs = search rules;
+  controls_le_inputs = few_controls_lem (goal.at.name_inputs-requires c).After-controls_of-controls;
+}
 
 pub put_gates-requires : goal.put_gates-requires
 put_gates-requires c =
     let k = counts (goal.at.put_gates-requires c).After-controls_of-controls in
-    let zeros = zeros_long (goal.at.put_gates-requires c).After-no_numbers-numbers in record { variable_in_bounds = search rules; gates_in_bounds = omega (arith, k.gates_read, k.gate_long); gates_le_variable = omega (arith, k.gates_read); latches_le_latches = omega (arith, k.latches_read); inputs_le_inputs = omega (arith, k.inputs_read); gates_in_bounds_2 = omega (arith, k.latches_read, k.gates_read, zeros); by_index = first (goal.at.put_gates-requires c).After-name_latches k }
+    let zeros = zeros_long (goal.at.put_gates-requires c).After-no_numbers-numbers in record {
+      variable_in_bounds = search rules;
+      gates_in_bounds = omega (arith, k.gates_read, k.gate_long);
+      gates_le_variable = omega (arith, k.gates_read);
+      latches_le_latches = omega (arith, k.latches_read);
+      inputs_le_inputs = omega (arith, k.inputs_read);
+      gates_in_bounds_2 = omega (arith, k.latches_read, k.gates_read, zeros);
+      by_index = first (goal.at.put_gates-requires c).After-name_latches k;
+    }
 
 pub put_nexts-requires : goal.put_nexts-requires
 put_nexts-requires c =
     let k = counts (goal.at.put_nexts-requires c).After-controls_of-controls in
-    let zeros = zeros_long (goal.at.put_nexts-requires c).After-no_numbers-numbers in record { latches_in_bounds = omega (arith, k.latches_read, k.latch_long); latches_le_latches = omega (arith, k.latches_read); latches_in_bounds_2 = omega (arith, k.latches_read, gates_kept (goal.at.put_nexts-requires c).After-put_gates, zeros); by_index = all (goal.at.put_nexts-requires c).After-put_gates k }
+    let zeros = zeros_long (goal.at.put_nexts-requires c).After-no_numbers-numbers in record {
+      latches_in_bounds = omega (arith, k.latches_read, k.latch_long);
+      latches_le_latches = omega (arith, k.latches_read);
+      latches_in_bounds_2 = omega (arith, k.latches_read, gates_kept (goal.at.put_nexts-requires c).After-put_gates, zeros);
+      by_index = all (goal.at.put_nexts-requires c).After-put_gates k;
+    }
 
 pub net_literal-output-requires : goal.net_literal-output-requires
-net_literal-output-requires c = all (goal.at.net_literal-output-requires c).After-put_gates (counts (goal.at.net_literal-output-requires c).After-controls_of-controls)
+net_literal-output-requires c =
+    all (goal.at.net_literal-output-requires c).After-put_gates (counts (goal.at.net_literal-output-requires c).After-controls_of-controls)
 
 pub put_head-requires : goal.put_head-requires
 put_head-requires c =
     let k = counts (goal.at.put_head-requires c).After-controls_of-controls in
-    let zeros = zeros_long (goal.at.put_head-requires c).After-no_numbers-numbers in record { controls_le_inputs = few_controls_lem (goal.at.put_head-requires c).After-controls_of-controls; inputs_le_inputs = omega (arith, k.inputs_read); latches_le_latches = omega (arith, k.latches_read); in_bounds = omega (arith, nexts_kept (goal.at.put_head-requires c).After-put_nexts, gates_kept (goal.at.put_head-requires c).After-put_gates, zeros) }
+    let zeros = zeros_long (goal.at.put_head-requires c).After-no_numbers-numbers in record {
+      controls_le_inputs = few_controls_lem (goal.at.put_head-requires c).After-controls_of-controls;
+      inputs_le_inputs = omega (arith, k.inputs_read);
+      latches_le_latches = omega (arith, k.latches_read);
+      in_bounds = omega (arith, nexts_kept (goal.at.put_head-requires c).After-put_nexts, gates_kept (goal.at.put_head-requires c).After-put_gates, zeros);
+    }
 
 pub overflow_add-result : goal.overflow_add-result
 overflow_add-result c = omega (arith, (counts (goal.at.overflow_add-result c).After-controls_of-controls).latches_read)

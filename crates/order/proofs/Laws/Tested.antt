@@ -118,7 +118,8 @@ module _ (uses : List ℕ) (n : ℕ) (order : List ℕ) where
         next = ap (λ (m : ℕ). take m order) (add-one k) ∙ take-suc order k n (omega arith)
 
         same : marked (set marks (get_or order k n) 1) (get_or order k n) ≡ stands n (take (k + 1) order) (get_or order k n)
-        same = mark_same marks (get_or order k n) ∙ sym (ap (λ (l : List ℕ). stands n l (get_or order k n)) next ∙ put-stands n (take k order) (get_or order k n))
+        same = mark_same marks (get_or order k n) ∙ sym (ap (λ (l : List ℕ). stands n l (get_or order k n)) next ∙ put-stands n (take k order)
+            (get_or order k n))
 
         front : (j : ℕ) → marked (set marks (get_or order k n) 1) j ≡ stands n (take (k + 1) order) j
         front j = elim (ℕ_discrete j (get_or order k n)) [

@@ -9,7 +9,11 @@ pub returns-then-in_order : goal.returns-then-in_order
 returns-then-in_order c =
     let k = c.clear in
     let t = c.in_order in
-    let p = c.place in record { value = tested_in_order c.args.uses.now _ _ _ p.auto.marks p.ensures t.result t.ensures c.if-in_order.true; order_after = p.ensures; marks_after = k.ensures ∙ ap (table (λ i. 0)) (t.auto.marks ∙ p.auto.marks) }
+    let p = c.place in record {
+      value = tested_in_order c.args.uses.now _ _ _ p.auto.marks p.ensures t.result t.ensures c.if-in_order.true;
+      order_after = p.ensures;
+      marks_after = k.ensures ∙ ap (table (λ i. 0)) (t.auto.marks ∙ p.auto.marks);
+    }
 
 pub returns-else-in_order : goal.returns-else-in_order
 returns-else-in_order c =

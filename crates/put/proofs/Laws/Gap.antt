@@ -95,7 +95,10 @@ module _ (a b c : List ℕ) where
       each : (i : ℕ) → i < length closed → get_or closed i 0 ≡ get_or (a ++ c ++ zeros) i 0
       each i h = elim (dec_lt i (length a)) [
         | yes l ↦ first i l
-        | no l ↦ elim (dec_lt i (length a + length c)) [ yes m ↦ at_middle i (omega arith) m | no m ↦ at_last i (omega (arith, length-append a c)) (within i h) ]
+        | no l ↦ elim (dec_lt i (length a + length c)) [
+          | yes m ↦ at_middle i (omega arith) m
+          | no m ↦ at_last i (omega (arith, length-append a c)) (within i h)
+        ]
       ]
 
 pub close_gap-is :

@@ -255,7 +255,11 @@ module _ (h : Header) (file : List ℕ) (from : Cursor) (marks₀ rows₀ : List
             whole =
                 next
                 ∙ ap (λ o. o >>= λ gs. lined (rule_at h) (suc j) (line_count h - suc j) (with_row (rule_at h j) body gs)) taken_line
-                ∙ ap {B = _} (lined (rule_at h) (suc j) (line_count h - suc j)) (λ x. record { rows = all_rows_lem x; defined = w.defined ++ new x; rest = rest x });
+                ∙ ap {B = _} (lined (rule_at h) (suc j) (line_count h - suc j)) (λ x. record {
+                  rows = all_rows_lem x;
+                  defined = w.defined ++ new x;
+                  rest = rest x;
+                });
             count = more;
             within = line_ends_within file here.at end ends w.within;
             line = omega (arith, w.line);

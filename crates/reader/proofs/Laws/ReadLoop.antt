@@ -77,7 +77,8 @@ inputs_that_snoc p (j ∷ is) i = by (p j) (p i) (inputs_that_snoc p is i)
     by false true e = e
     by false false e = e
 
-inputs_that_same : (p q : Input → Bool) (f g : ℕ → Input) (n : ℕ) → ((i : ℕ) → i < n → p (f i) ≡ q (g i)) → inputs_that p (table f n) ≡ inputs_that q (table g n)
+inputs_that_same : (p q : Input → Bool) (f g : ℕ → Input) (n : ℕ) → ((i : ℕ) → i < n → p (f i) ≡ q (g i)) → inputs_that p (table f n) ≡ inputs_that q
+    (table g n)
 unfolding table inputs_that
 inputs_that_same p q f g zero e = refl
 inputs_that_same p q f g (suc n) e = inputs_that_snoc p (table f n) (f n) ∙ ap₂ (λ (b : Bool) (m : ℕ). cond b (suc m) m) (e n (omega arith))

@@ -22,7 +22,8 @@ use Rattle.fields.specs.declared.line.Cursor.{Cursor}
 use Rattle.text.specs.Header.{Header}
 use Rattle.text.specs.Line.{lines, before, first_line}
 use Rattle.text.specs.Numbers.{bad_symbol}
-use Rattle.text.specs.Symbol.{Symbol, input_letter, latch_letter, output_letter, names, positions, symbol_lines, or_bad_symbol, is_controllable, is_controllable_name}
+use Rattle.text.specs.Symbol.{Symbol, input_letter, latch_letter, output_letter, names, positions, symbol_lines, or_bad_symbol, is_controllable}
+use Rattle.text.specs.Symbol.{is_controllable_name}
 use Rattle.lines.specs.Inner.Named.{Named, slot_of}
 use Rattle.reader.specs.Inner.SymbolsAs.{Flags, SymbolRoom, SymbolsRead}
 use Rattle.lines.specs.Inner.SymboledAs.{SymbolAs}

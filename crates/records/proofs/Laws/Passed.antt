@@ -59,7 +59,8 @@ module _ (bytes : List ℕ) (n L s : ℕ) where
     where
       by :
           (b : Bool) → n ≡ cond b (packed_length L U C) (reply_length L U)
-          → cond b (packed_reply (take n bytes) L U C s r) (byte_reply (take n bytes) L U s r) ≡ cond b (packed_reply bytes L U C s r) (byte_reply bytes L U s r)
+          → cond b (packed_reply (take n bytes) L U C s r) (byte_reply (take n bytes) L U s r) ≡ cond b (packed_reply bytes L U C s r)
+          (byte_reply bytes L U s r)
       by true f = packed_in_front U C r f
       by false f = replies_in_front U r f
 

@@ -112,7 +112,8 @@ laid_splits four two contents rest long short sized =
         ap (λ (n : ℕ). drop (6 + n) (four ++ (two ++ (contents ++ rest)))) size ∙ sym (drop-drop (length contents) 6 (four ++ (two ++ (contents ++ rest))))
         ∙ ap (drop (length contents)) headless ∙ drop_at contents rest (length contents) refl
 
-record_laid : (kind : ℕ) (contents rest : List ℕ) → record_of kind contents ++ rest ≡ digits 256 4 (length contents) ++ (digits 256 2 kind ++ (contents ++ rest))
+record_laid : (kind : ℕ) (contents rest : List ℕ) → record_of kind contents ++ rest ≡ digits 256 4 (length contents) ++
+    (digits 256 2 kind ++ (contents ++ rest))
 unfolding record_of
 record_laid kind contents rest = simp append_assoc
 

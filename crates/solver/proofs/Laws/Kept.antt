@@ -177,7 +177,8 @@ module _ (net : List ℕ) (ranks : ℕ → ℕ) (k : ℕ) (kept planes : List �
       }
 
 -- nor does a greater bound take a rank away
-pub kept-most : (net : List ℕ) (k m : ℕ) (ranks kept planes : List ℕ) → Kept net (ranks_in ranks) k kept planes → k ≤ m → Kept net (ranks_in ranks) m kept planes
+pub kept-most : (net : List ℕ) (k m : ℕ) (ranks kept planes : List ℕ) → Kept net (ranks_in ranks) k kept planes → k ≤ m → Kept net (ranks_in ranks) m kept
+    planes
 kept-most net k m ranks kept planes all h = kept-later net (ranks_in ranks) k kept planes all (ranks_in ranks) m still
   where
     still : (t : ℕ) → not_ranked (ranks_in ranks) k t ≡ false → not_ranked (ranks_in ranks) m t ≡ false

@@ -32,7 +32,8 @@ module _ (net : List ℕ) (set : ℕ → Bool) (s r : ℕ) (state : s < 2 ^ net_
   unfolding place_keeps move_keeps keeps net_game net_move net_step
   keeps-move k h = ap (move_keeps net set) (sym (move-is k h))
 
-  pub least-move : least (place_keeps net set (s * 2 ^ net_readings net + r)) (2 ^ net_controls net) ≡ least (keeps (net_game net) set s r) (2 ^ net_controls net)
+  pub least-move : least (place_keeps net set (s * 2 ^ net_readings net + r)) (2 ^ net_controls net) ≡ least (keeps (net_game net) set s r)
+      (2 ^ net_controls net)
   least-move = least_same _ _ (2 ^ net_controls net) keeps-move
 
 -- a reading defeats exactly if no control keeps at its place

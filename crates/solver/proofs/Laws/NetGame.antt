@@ -25,7 +25,8 @@ bits_below f (l ∷ ls) = (one_if-bit (f l), bits_below f ls)
 
 next_below : (net : List ℕ) (m : ℕ) → net_next net m < 2 ^ net_latches net
 unfolding net_next net_nexts
-next_below net m = omega (arith, sum_below 2 (map bit ls) (bits_below (literal_value (net_values net m)) ls), length-map ls bit, pow-le-pow_right {n = 2} two few)
+next_below net m =
+    omega (arith, sum_below 2 (map bit ls) (bits_below (literal_value (net_values net m)) ls), length-map ls bit, pow-le-pow_right {n = 2} two few)
   where
     bit : ℕ → ℕ
     bit l = one_if (literal_value (net_values net m) l)

@@ -42,7 +42,8 @@ slice_bounds-solve_net-end c =
     )))
 
 pub solve_net-requires : goal.solve_net-requires
-solve_net-requires c = subst InOrder (sym (front (goal.at.solve_net-requires c).After-make-made)) (net_in_order _ (room (goal.at.solve_net-requires c).After-make-made))
+solve_net-requires c =
+    subst InOrder (sym (front (goal.at.solve_net-requires c).After-make-made)) (net_in_order _ (room (goal.at.solve_net-requires c).After-make-made))
 
 pub returns : goal.returns
 returns c = c.solve_net.ensures ∙ ap (λ (l : List ℕ). solution_of (net_game (solvable_net l))) (front (goal.at.returns c).After-make-made)

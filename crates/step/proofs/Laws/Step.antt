@@ -47,7 +47,8 @@ module _ (input controllable latch next : List ℕ) (output : ℕ) (gate left ri
       → gates ≡ valuation (lent 0 input controllable latch next output gate left right) s r k
   unfolding valuation lent
   values_put s r k none inputs latches gates a b c d =
-      d ∙ ap (with_gates (gates_of gate left right)) (c ∙ ap (with_latches (latches_of latch next) s) (b ∙ ap (with_inputs (inputs_of input controllable) r k) a))
+      d ∙ ap (with_gates (gates_of gate left right)) (c ∙ ap (with_latches (latches_of latch next) s)
+      (b ∙ ap (with_inputs (inputs_of input controllable) r k) a))
 
   pub step_is : (s r k : ℕ) (val : Valuation) (error : Bool) (after : ℕ)
       → val ≡ valuation (lent 0 input controllable latch next output gate left right) s r k
@@ -95,12 +96,14 @@ unfolding with_latches
 latches_mod [] s val = refl
 latches_mod (l ∷ ls) s val = rw (half_mod s (length ls), odd_mod s (length ls)) (latches_mod ls (s / 2) (put (variable l.own) (odd s) val))
 
-valuation_mod : (c : Circuit) (s r k : ℕ) → valuation c (s % 2 ^ latch_count c) (r % 2 ^ uncontrollable_count c) (k % 2 ^ controllable_count c) ≡ valuation c s r k
+valuation_mod : (c : Circuit) (s r k : ℕ) → valuation c (s % 2 ^ latch_count c) (r % 2 ^ uncontrollable_count c) (k % 2 ^ controllable_count c) ≡ valuation c s
+    r k
 unfolding valuation latch_count uncontrollable_count controllable_count chosen other
 valuation_mod c s r k = ap (with_gates c.gates) (latches_mod c.latches s _ ∙ ap (with_latches c.latches s) (inputs_mod c.inputs r k (λ v. false)))
 
 -- bits of state, reading and control above their counts aren't read
-pub bits_above_not_read : (c : Circuit) (s r k : ℕ) → step c (s % 2 ^ latch_count c) (r % 2 ^ uncontrollable_count c) (k % 2 ^ controllable_count c) ≡ step c s r k
+pub bits_above_not_read : (c : Circuit) (s r k : ℕ) → step c (s % 2 ^ latch_count c) (r % 2 ^ uncontrollable_count c) (k % 2 ^ controllable_count c) ≡ step c s
+    r k
 unfolding step error_of next_of
 bits_above_not_read c s r k =
     let val = valuation_mod c s r k in

@@ -93,7 +93,8 @@ module _ (gate left right : List ℕ) where
   pub gates_next : (i : ℕ) (val : Valuation) → i < length gate
       → with_gates (drop i (gates_of gate left right)) val
       ≡ with_gates (drop (i + 1) (gates_of gate left right))
-      (put (variable (literal_of (get_or gate i 0))) (literal_value val (literal_of (get_or left i 0)) && literal_value val (literal_of (get_or right i 0))) val)
+      (put (variable (literal_of (get_or gate i 0))) (literal_value val (literal_of (get_or left i 0)) && literal_value val (literal_of (get_or right i 0)))
+      val)
   unfolding gates_of gate_at with_gates
   gates_next i val h = rw add-one (ap (λ (gs : List Gate). with_gates gs val) (drop_table gate_at (length gate) i h))
 

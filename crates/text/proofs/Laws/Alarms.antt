@@ -65,7 +65,8 @@ pub latch_closes_no_circle : lines_read (record { largest = 2; inputs = 0; latch
       symbols = [];
       comment = none;
     })
-unfolding lines_read section judged with_row onward used refuse_if circled symbol_lines latch_of gate_of input_rule latch_rule output_rule gate_rule first_of bad_own
+unfolding lines_read section judged with_row onward used refuse_if circled symbol_lines latch_of gate_of input_rule latch_rule output_rule gate_rule first_of
+    bad_own
     is_defined unknown any_unknown variable constant may_define too_large member among numbers_of separators fields prepend number run is_digit is_numeral
     decimal_value definer uses_of gate_at lowest_circle meets_itself from least visit waits marked table flat_map
 latch_closes_no_circle = refl

@@ -301,7 +301,8 @@ module _ (h : Header) (rest : List (List ℕ)) where
             ]
 
         by : All (All (Known defined)) used_there
-            → behind_late h (body_i ins) (body_l ins lats) (body_o ins lats outs) (body_g ins lats outs gs) ≡ refused number place → BodyBroken h rest number place
+            → behind_late h (body_i ins) (body_l ins lats) (body_o ins lats outs) (body_g ins lats outs gs) ≡ refused number place → BodyBroken h rest number
+            place
         by known f =
             elim (then_refused (circle_stage h (body_g ins lats outs gs))
             (behind_circle h (body_i ins) (body_l ins lats) (body_o ins lats outs) (body_g ins lats outs gs)) number place f) [

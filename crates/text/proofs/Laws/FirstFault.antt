@@ -161,7 +161,8 @@ module _ (M : ℕ) (k : Kind) where
     right_join (suc n) defined ls (fs ∷ rows) more w v = (
       w.0,
       right_join n (defined ++ defined_by k fs) (drop 1 ls) rows more w.1
-          (subst (λ (d : List ℕ). AllRight M js d (drop n (drop 1 ls)) more) (sym (append_assoc defined (defined_by k fs) (defined_by_all (replicate n k) rows)))
+          (subst (λ (d : List ℕ). AllRight M js d (drop n (drop 1 ls)) more)
+          (sym (append_assoc defined (defined_by k fs) (defined_by_all (replicate n k) rows)))
           (subst (λ (rest : List (List ℕ)). AllRight M js (defined ++ (defined_by k fs ++ defined_by_all (replicate n k) rows)) rest more)
           (sym (drop_one_more n ls)) v)),
     )

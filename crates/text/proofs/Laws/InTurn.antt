@@ -114,7 +114,8 @@ module _ (gates : List Gate) (never : (i : ℕ) → ReachesItself gates i → �
     unfolding gate_at
     in_front k m h below =
         let long : length (take k (in_turn gates)) ≡ k = length-take-le k (in_turn gates) (omega (arith, h, turn_long)) in
-        subst (In (take k (in_turn gates))) (get_or-take k (in_turn gates) m no_gate below) (in_at no_gate (take k (in_turn gates)) m (omega (arith, below, long)))
+        subst (In (take k (in_turn gates))) (get_or-take k (in_turn gates) m no_gate below)
+        (in_at no_gate (take k (in_turn gates)) m (omega (arith, below, long)))
 
     literal_above : (k : ℕ) → k < n → (l : ℕ) → Known (sources ++ map gate_variable gates) l
         → ((j : ℕ) → Defines gates l j → definer gates l ≡ j → Uses (uses_of gates) n (get_or (evaluation gates) k n) j)

@@ -221,7 +221,8 @@ module _ (k : Kind) (M : ℕ) (defined line : List ℕ) where
 
   judged_line : (place : ℕ) (fs : List ℕ) → LineIs (numbers_in k) line fs
       → line_judged k M defined place line ≡ verdict place fs (five_of k M fs) (six_of k defined fs)
-  judged_line place fs i = ap (judged (rule_of k M) defined place) (line_read fs i) ∙ judged_by_lem (rule_of k M) defined place fs _ _ (fault_tests k M defined fs)
+  judged_line place fs i = ap (judged (rule_of k M) defined place) (line_read fs i) ∙ judged_by_lem (rule_of k M) defined place fs _ _
+      (fault_tests k M defined fs)
 
   malformed_refused : (place : ℕ) → Malformed (numbers_in k) line → line_judged k M defined place line ≡ refused bad_line place
   unfolding judged

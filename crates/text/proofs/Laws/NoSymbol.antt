@@ -86,7 +86,8 @@ good_right h seen s g =
 no_symbol : (h : Header) (seen : List Symbol) (line : List ℕ) → symbol_of h seen line ≡ none → (s : Symbol) → SymbolRight h seen s → line ≡ symbol_line s → ⊥
 no_symbol h seen line e s r l = none_is-not_some s (sym e ∙ ap (symbol_of h seen) l ∙ symbol_of_line h seen s (right_good h seen s r))
 
-symbol_none : (h : Header) (seen : List Symbol) (line : List ℕ) → ((s : Symbol) → SymbolRight h seen s → line ≡ symbol_line s → ⊥) → symbol_of h seen line ≡ none
+symbol_none : (h : Header) (seen : List Symbol) (line : List ℕ) → ((s : Symbol) → SymbolRight h seen s → line ≡ symbol_line s → ⊥) → symbol_of h seen line
+    ≡ none
 symbol_none h seen line other = by (symbol_of h seen line) refl
   where
     by : (o : Option Symbol) → symbol_of h seen line ≡ o → symbol_of h seen line ≡ none

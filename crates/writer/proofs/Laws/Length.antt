@@ -34,7 +34,8 @@ module _ (file : List ℕ) (c : Circuit) where
   unfolding table_length reply_length
   byte_length = reply_length_lem reply_kind
 
-  pub packed_length_lem : length (reply_certificate packed_kind file c) ≡ front_length + (controllable_count c * 2 ^ (latch_count c + uncontrollable_count c) + 7) / 8
+  pub packed_length_lem : length (reply_certificate packed_kind file c) ≡ front_length
+      + (controllable_count c * 2 ^ (latch_count c + uncontrollable_count c) + 7) / 8
   unfolding table_length packed_length
   packed_length_lem = reply_length_lem packed_kind
 

@@ -36,7 +36,8 @@ use Rattle.bits.proofs.Laws.BitBytes.{bit_of_bytes}
 use Rattle.checker.specs.Answer.{Starts, of_replies, of_attacks, starts_of, answer_of}
 use Rattle.checker.specs.Check.{check_of}
 use Rattle.checker.specs.StoredFor.{reply_at}
-use Rattle.checker.proofs.Laws.ReadPassed.{RepliesTook, replies_took, bits_are, replies_are_lem, AttacksTook, attacks_took, ranks_are_lem, attacks_are_lem, took_answers}
+use Rattle.checker.proofs.Laws.ReadPassed.{RepliesTook, replies_took, bits_are, replies_are_lem, AttacksTook, attacks_took, ranks_are_lem, attacks_are_lem}
+use Rattle.checker.proofs.Laws.ReadPassed.{took_answers}
 use Rattle.writer.specs.declared.Certified.{Certified}
 use Rattle.writer.specs.Answer.{Verdict, certified_outcome, certificate_for, verdict_for, CertifiedAs}
 use Rattle.writer.specs.Certificate.{certificate_of}

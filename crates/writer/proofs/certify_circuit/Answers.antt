@@ -10,7 +10,12 @@ certify_replies-requires c = let v = c.args.c in
     let n = c.counted-n in
     let s = c.solve-solved in
     let m = c.numbers-states in
-    let r = c.numbers-readings in record { states_bound = few_numbers n.result.latches m.result base.latches m.ensures n.ensures.latches_le_latches; readings_bound = few_numbers n.result.uncontrollable r.result base.uncontrollable r.ensures n.ensures.uncontrollable_le_uncontrollable; controls_le_controllable = few_controls_lem (meant v) n.result n.ensures.value; replies_len = all_replies (solvable (meant v)) s.result s.ensures }
+    let r = c.numbers-readings in record {
+      states_bound = few_numbers n.result.latches m.result base.latches m.ensures n.ensures.latches_le_latches;
+      readings_bound = few_numbers n.result.uncontrollable r.result base.uncontrollable r.ensures n.ensures.uncontrollable_le_uncontrollable;
+      controls_le_controllable = few_controls_lem (meant v) n.result n.ensures.value;
+      replies_len = all_replies (solvable (meant v)) s.result s.ensures;
+    }
 
 pub certify_attacks-requires : goal.certify_attacks-requires
 certify_attacks-requires c = let n = c.counted-n in

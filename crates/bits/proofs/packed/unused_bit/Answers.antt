@@ -11,7 +11,7 @@ returns-then-bytes-at-ne0 c =
     let a = c.args in
     let l = c.loop-at in
     none_before-found a.bytes.now a.n l.at l.used l.invariant c.loop-at-test.true
-    (omega (arith, c.shared_slice_known-1.given l.at)) c.if-bytes-at-ne0.true
+    (omega (arith, c.type_inv.bytes l.at)) c.if-bytes-at-ne0.true
 
 pub loop-at-preserved : goal.loop-at-preserved
 loop-at-preserved c =

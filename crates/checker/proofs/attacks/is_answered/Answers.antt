@@ -54,7 +54,8 @@ pub loop-m-init : goal.loop-m-init
 loop-m-init c = λ s starts ends. tried_start _ s _ _ _ _ _ starts ends
 
 pub overflow_mul-block : goal.overflow_mul-block
-overflow_mul-block c = omega (arith, first_few (goal.at.overflow_mul-block c).After-power, all_few (goal.at.overflow_mul-block c).After-power, c.loop-m-test.true)
+overflow_mul-block c =
+    omega (arith, first_few (goal.at.overflow_mul-block c).After-power, all_few (goal.at.overflow_mul-block c).After-power, c.loop-m-test.true)
 
 pub overflow_sub-end : goal.overflow_sub-end
 overflow_sub-end c = omega (arith, c.loop-m-test.true)
@@ -67,8 +68,10 @@ returns-then-block_keeps c =
     let end = c.move_of-first.result + c.power.result in
     let same = ap (λ (n : ℕ). some_lane (unranked a.table.now n a.bound) a.net.now v.new.words (l.m % width)
     (end - l.m / width * width)) c.latches_of-latches.ensures in
-    tried_kept a.net.now c.requires (unranked a.table.now (net_latches a.net.now) a.bound) _ _ _ _ (first (goal.at.returns-then-block_keeps c).After-power) (end_is (goal.at.returns-then-block_keeps c).After-power) l.m _ _ (parted l.m)
-    (mod-lt l.m (omega arith)) v.new.words l.words v.ensures (l.invariant c.requires (first (goal.at.returns-then-block_keeps c).After-power) (end_is (goal.at.returns-then-block_keeps c).After-power))
+    tried_kept a.net.now c.requires (unranked a.table.now (net_latches a.net.now) a.bound) _ _ _ _ (first (goal.at.returns-then-block_keeps c).After-power)
+    (end_is (goal.at.returns-then-block_keeps c).After-power) l.m _ _ (parted l.m)
+    (mod-lt l.m (omega arith)) v.new.words l.words v.ensures (l.invariant c.requires (first (goal.at.returns-then-block_keeps c).After-power)
+    (end_is (goal.at.returns-then-block_keeps c).After-power))
     c.loop-m-test.true (sym (c.block_keeps.ensures ∙ same) ∙ c.if-block_keeps.true)
 
 pub overflow_add-m : goal.overflow_add-m
@@ -96,5 +99,6 @@ loop-m-preserved c =
 
 pub returns : goal.returns
 returns c =
-    tried_end c.args.net.now c.requires _ _ _ _ _ (first (goal.at.returns c).After-power) (end_is (goal.at.returns c).After-power) c.loop-m.m (c.loop-m.invariant c.requires (first (goal.at.returns c).After-power) (end_is (goal.at.returns c).After-power))
+    tried_end c.args.net.now c.requires _ _ _ _ _ (first (goal.at.returns c).After-power) (end_is (goal.at.returns c).After-power) c.loop-m.m
+    (c.loop-m.invariant c.requires (first (goal.at.returns c).After-power) (end_is (goal.at.returns c).After-power))
     c.loop-m-test.false

@@ -39,12 +39,20 @@ loop-i-init c = (passed_start _ _, λ j h. (_, c.evaluate.ensures j h))
 
 pub look_at-block-requires : goal.look_at-block-requires
 look_at-block-requires c =
-    record { sized = c.requires; place_bound = subst (λ (m : ℕ). c.loop-i.i < m) (all (goal.at.look_at-block-requires c).After-power-n) c.loop-i-test.true; holding = c.loop-i.invariant.1 }
+    record {
+      sized = c.requires;
+      place_bound = subst (λ (m : ℕ). c.loop-i.i < m) (all (goal.at.look_at-block-requires c).After-power-n) c.loop-i-test.true;
+      holding = c.loop-i.invariant.1;
+    }
 
 pub reply_broken-requires : goal.reply_broken-requires
 reply_broken-requires c =
     let n = c.args.net.now in
-    let k = c.look_at-block in record { sized = c.requires; place_bound = subst (λ (m : ℕ). c.loop-i.i < m) (all (goal.at.reply_broken-requires c).After-power-n) c.loop-i-test.true; at_hand = λ e. subst (λ (b : ℕ). Holding n b k.new.words) (k.ensures.1 e) k.ensures.0 }
+    let k = c.look_at-block in record {
+      sized = c.requires;
+      place_bound = subst (λ (m : ℕ). c.loop-i.i < m) (all (goal.at.reply_broken-requires c).After-power-n) c.loop-i-test.true;
+      at_hand = λ e. subst (λ (b : ℕ). Holding n b k.new.words) (k.ensures.1 e) k.ensures.0;
+    }
 
 pub returns-then-reply_broken : goal.returns-then-reply_broken
 returns-then-reply_broken c =

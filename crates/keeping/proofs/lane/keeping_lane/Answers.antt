@@ -20,7 +20,10 @@ returns-then-is_unranked c = let l = c.loop-j in
     let set = not_ranked (ranks_in a.ranks.now) a.bound in
     let free = sym c.is_lane.ensures ∙ c.if-not-is_lane.true in
     let keeps : keeps_in set a.error a.next.now l.j ≡ true = next_decides set a.error a.next.now l.j free
-    ∙ ap set (sym c.lane_number-lead.ensures) ∙ sym c.is_unranked.ensures ∙ c.if-is_unranked.true in record { lane_value = search_here _ _ _ l.j l.invariant (omega arith) keeps; lead_value = λ h. c.lane_number-lead.ensures }
+    ∙ ap set (sym c.lane_number-lead.ensures) ∙ sym c.is_unranked.ensures ∙ c.if-is_unranked.true in record {
+      lane_value = search_here _ _ _ l.j l.invariant (omega arith) keeps;
+      lead_value = λ h. c.lane_number-lead.ensures;
+    }
 
 pub loop-j-preserved : goal.loop-j-preserved
 loop-j-preserved c = let l = c.loop-j in

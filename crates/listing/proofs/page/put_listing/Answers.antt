@@ -10,12 +10,19 @@ pub put_replies-requires : goal.put_replies-requires
 put_replies-requires c =
     let counts = c.put_three-first.ensures in
     let word = c.put_verdict-word.ensures in
-    let states = c.numbers-states.ensures in record { at_bound = omega (arith, counts.upper_bound, word.upper_bound); readings_bound = few_numbers _ _ c.numbers.ensures; states_bound = few_numbers _ _ states }
+    let states = c.numbers-states.ensures in record {
+      at_bound = omega (arith, counts.upper_bound, word.upper_bound);
+      readings_bound = few_numbers _ _ c.numbers.ensures;
+      states_bound = few_numbers _ _ states;
+    }
 
 pub put_attacks-requires : goal.put_attacks-requires
 put_attacks-requires c =
     let counts = c.put_three-first.ensures in
-    let word = c.put_verdict-word.ensures in record { at_bound = omega (arith, counts.upper_bound, word.upper_bound); states_bound = few_numbers _ _ c.numbers-states.ensures }
+    let word = c.put_verdict-word.ensures in record {
+      at_bound = omega (arith, counts.upper_bound, word.upper_bound);
+      states_bound = few_numbers _ _ c.numbers-states.ensures;
+    }
 
 pub returns-then-realizable : goal.returns-then-realizable
 returns-then-realizable c =

@@ -6,4 +6,7 @@ pub returns : goal.returns
 returns c =
     let a = c.args in
     let w = c.put_three.ensures in
-    let rank = c.rank_at-rank.ensures in record { wrote = wrote_attack a.ranks.now a.attacks.now a.s rank c.byte_at-attack.ensures w.wrote; upper_bound = w.upper_bound }
+    let rank = c.rank_at-rank.ensures in record {
+      wrote = wrote_attack a.ranks.now a.attacks.now a.s rank c.byte_at-attack.ensures w.wrote;
+      upper_bound = w.upper_bound;
+    }

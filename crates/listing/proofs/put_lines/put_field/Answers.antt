@@ -8,4 +8,7 @@ pub returns : goal.returns
 returns c =
     let space = c.put_bytes.ensures in
     let number = c.put_number.ensures in
-    let n = c.args.n in record { wrote = wrote_field n (wrote_put (omega (arith, space.value)) space.out_after) number.wrote; upper_bound = omega (arith, space.value, number.upper_bound) }
+    let n = c.args.n in record {
+      wrote = wrote_field n (wrote_put (omega (arith, space.value)) space.out_after) number.wrote;
+      upper_bound = omega (arith, space.value, number.upper_bound);
+    }

@@ -13,4 +13,7 @@ overflow_add-result c =
 pub returns : goal.returns
 returns c =
     let d = c.put_decimal.ensures in
-    let few = length-decimal-most 19 c.args.n (omega arith) in record { wrote = wrote_put (ap (λ (k : ℕ). c.args.at + k) d.value) d.out_after; upper_bound = omega (arith, few, d.value) }
+    let few = length-decimal-most 19 c.args.n (omega arith) in record {
+      wrote = wrote_put (ap (λ (k : ℕ). c.args.at + k) d.value) d.out_after;
+      upper_bound = omega (arith, few, d.value);
+    }

@@ -10,7 +10,11 @@ loop-s-init c =
     let a = c.args in turns_start (reply_text a.ranks.now a.replies.now a.readings) (2 ^ 15) a.states a.at
 
 pub put_reply_line-behind-requires : goal.put_reply_line-behind-requires
-put_reply_line-behind-requires c = record { at_bound = omega (arith, c.loop-s.invariant.most); readings_bound = c.requires.readings_bound; s_bound = omega arith }
+put_reply_line-behind-requires c = record {
+  at_bound = omega (arith, c.loop-s.invariant.most);
+  readings_bound = c.requires.readings_bound;
+  s_bound = omega arith;
+}
 
 pub loop-s-preserved : goal.loop-s-preserved
 loop-s-preserved c =

@@ -12,7 +12,11 @@ pub put_row-row-requires : goal.put_row-row-requires
 put_row-row-requires c =
     let head = c.put_field-head.ensures in
     let own = c.put_number-own.ensures in
-    let few = few_places c.args.s c.args.readings c.requires.s_bound c.requires.readings_bound in record { at_bound = omega (arith, own.upper_bound, head.upper_bound); first_bound = omega (arith, few); n_bound = c.requires.readings_bound }
+    let few = few_places c.args.s c.args.readings c.requires.s_bound c.requires.readings_bound in record {
+      at_bound = omega (arith, own.upper_bound, head.upper_bound);
+      first_bound = omega (arith, few);
+      n_bound = c.requires.readings_bound;
+    }
 
 pub returns : goal.returns
 returns c =

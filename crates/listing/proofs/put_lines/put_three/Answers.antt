@@ -10,4 +10,7 @@ returns c =
     let third = c.put_field-third.ensures in
     let second = c.put_field-second.ensures in
     let first = c.put_number-first.ensures in
-    let a = c.args in record { wrote = wrote_three a.a a.b a.c first.wrote second.wrote third.wrote (wrote_put (omega (arith, end.value)) end.out_after); upper_bound = omega (arith, first.upper_bound, second.upper_bound, third.upper_bound, end.value) }
+    let a = c.args in record {
+      wrote = wrote_three a.a a.b a.c first.wrote second.wrote third.wrote (wrote_put (omega (arith, end.value)) end.out_after);
+      upper_bound = omega (arith, first.upper_bound, second.upper_bound, third.upper_bound, end.value);
+    }

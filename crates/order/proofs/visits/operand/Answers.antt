@@ -3,4 +3,4 @@ use native.Mathlib.Omega.{arith}
 use Rattle.order.proofs.visits.operand.Goals as goal
 
 pub overflow_cast-result : goal.overflow_cast-result
-overflow_cast-result c = omega (arith, c.shared_slice_known-1.given c.args.at)
+overflow_cast-result c = omega (arith, c.type_inv.uses c.args.at)

@@ -26,4 +26,7 @@ shape_of-out c = c.loop-i.invariant.wrote.long
 pub returns : goal.returns
 returns c =
     let a = c.args in
-    let all_of = turns_end (latch_line a.latch.now a.next.now) longest_line a.n a.at c.loop-i.invariant c.loop-i-test.false in record { wrote = all_of.0; upper_bound = all_of.1 }
+    let all_of = turns_end (latch_line a.latch.now a.next.now) longest_line a.n a.at c.loop-i.invariant c.loop-i-test.false in record {
+      wrote = all_of.0;
+      upper_bound = all_of.1;
+    }

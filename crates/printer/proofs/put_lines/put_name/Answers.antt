@@ -13,7 +13,8 @@ returns-then-controllable-i-ne0 c =
     let start = c.put_bytes-then-controllable-i-ne0.ensures in
     let end = c.put_number.ensures in record {
       wrote = wrote_name a.controllable.now a.i
-          c.if-controllable-i-ne0.true (wrote_put (omega (arith, letter.value)) letter.out_after) position.wrote (wrote_put (omega (arith, start.value)) start.out_after) end.wrote;
+          c.if-controllable-i-ne0.true (wrote_put (omega (arith, letter.value)) letter.out_after) position.wrote
+          (wrote_put (omega (arith, start.value)) start.out_after) end.wrote;
       upper_bound = omega (arith, letter.value, position.upper_bound, start.value, end.upper_bound);
     }
 
@@ -23,4 +24,7 @@ returns-else-controllable-i-ne0 c =
 
 pub returns-else-i-controllable : goal.returns-else-i-controllable
 returns-else-i-controllable c =
-    let a = c.args in record { wrote = wrote_no_name a.controllable.now a.i a.at a.out.now (get_or-eq_default a.controllable.now 0 c.if-i-controllable.false); upper_bound = omega arith }
+    let a = c.args in record {
+      wrote = wrote_no_name a.controllable.now a.i a.at a.out.now (get_or-eq_default a.controllable.now 0 c.if-i-controllable.false);
+      upper_bound = omega arith;
+    }

@@ -19,9 +19,16 @@ overflow_add-behind c =
 pub returns-then-last-out : goal.returns-then-last-out
 returns-then-last-out c =
     let a = c.args in
-    let d = c.put_decimal in record { wrote = wrote_both (wrote_put (ap (λ (k : ℕ). a.at + k) d.ensures.value) d.ensures.out_after) (wrote_byte a.end (a.at + d.result) d.new.out); upper_bound = omega (arith, length-decimal-most 19 c.args.n (omega arith), d.ensures.value) }
+    let d = c.put_decimal in record {
+      wrote = wrote_both (wrote_put (ap (λ (k : ℕ). a.at + k) d.ensures.value) d.ensures.out_after) (wrote_byte a.end (a.at + d.result) d.new.out);
+      upper_bound = omega (arith, length-decimal-most 19 c.args.n (omega arith), d.ensures.value);
+    }
 
 pub returns-else-last-out : goal.returns-else-last-out
 returns-else-last-out c =
     let a = c.args in
-    let d = c.put_decimal in record { wrote = wrote_both (wrote_put (ap (λ (k : ℕ). a.at + k) d.ensures.value) d.ensures.out_after) (wrote_past a.end (a.at + d.result) d.new.out c.if-last-out.false); upper_bound = omega (arith, length-decimal-most 19 c.args.n (omega arith), d.ensures.value) }
+    let d = c.put_decimal in record {
+      wrote = wrote_both (wrote_put (ap (λ (k : ℕ). a.at + k) d.ensures.value) d.ensures.out_after)
+          (wrote_past a.end (a.at + d.result) d.new.out c.if-last-out.false);
+      upper_bound = omega (arith, length-decimal-most 19 c.args.n (omega arith), d.ensures.value);
+    }

@@ -12,7 +12,8 @@ use Rattle.bits.proofs.Laws.Wrote.{put-fits, put_refused}
 use Rattle.put.proofs.packed.pack.Goals as goal
 
 -- as many bytes as were counted
-counted : (numbers : List ℕ) (width n w : ℕ) → w ≡ min width 8 → n / 8 * w + (n % 8 * w + 7) / 8 ≡ length (packed_bytes (λ k. get_or numbers k 0) (min width 8) n)
+counted : (numbers : List ℕ) (width n w : ℕ) → w ≡ min width 8 → n / 8 * w + (n % 8 * w + 7) / 8 ≡ length
+    (packed_bytes (λ k. get_or numbers k 0) (min width 8) n)
 counted numbers width n w e =
     bytes_of_numbers n w ∙ ap (λ (m : ℕ). (n * m + 7) / 8) e ∙ sym (packed_length_lem (λ k. get_or numbers k 0) (min width 8) n)
 
@@ -51,10 +52,16 @@ pub returns-else-at-out : goal.returns-else-at-out
 returns-else-at-out c =
     let a = c.args in
     let w = c.fewer-w in
-    let many = counted a.numbers.now a.width a.n w.result w.ensures in record { value = many; out_after = sym (put_refused a.out.now a.at (packed_bytes (λ k. get_or a.numbers.now k 0) (min a.width 8) a.n) (omega (arith, many))) }
+    let many = counted a.numbers.now a.width a.n w.result w.ensures in record {
+      value = many;
+      out_after = sym (put_refused a.out.now a.at (packed_bytes (λ k. get_or a.numbers.now k 0) (min a.width 8) a.n) (omega (arith, many)));
+    }
 
 pub returns-else-many-out : goal.returns-else-many-out
 returns-else-many-out c =
     let a = c.args in
     let w = c.fewer-w in
-    let many = counted a.numbers.now a.width a.n w.result w.ensures in record { value = many; out_after = sym (put_refused a.out.now a.at (packed_bytes (λ k. get_or a.numbers.now k 0) (min a.width 8) a.n) (omega (arith, many))) }
+    let many = counted a.numbers.now a.width a.n w.result w.ensures in record {
+      value = many;
+      out_after = sym (put_refused a.out.now a.at (packed_bytes (λ k. get_or a.numbers.now k 0) (min a.width 8) a.n) (omega (arith, many)));
+    }

@@ -38,31 +38,44 @@ returns-in_default c =
 
 pub behind_region-requires : goal.behind_region-requires
 behind_region-requires c =
-    let f = found (goal.at.behind_region-requires c).In-Whole in record { within = c.requires; within_2 = record { ordered = f.ordered; inside = f.within }; region_value = f.begins }
+    let f = found (goal.at.behind_region-requires c).In-Whole in record {
+      within = c.requires;
+      within_2 = record { ordered = f.ordered; inside = f.within };
+      region_value = f.begins;
+    }
 
 pub returns-then-kind-eq-REGION : goal.returns-then-kind-eq-REGION
 unfolding shape_of second_of
 returns-then-kind-eq-REGION c =
     let a = c.args in
     c.behind_region.ensures
-    ∙ sym (ap (λ (s : Split). shape_of (second_of accepted_kinds (part head_length a.circuit a.certificate.now) s)) (found (goal.at.returns-then-kind-eq-REGION c).In-Whole).splits
-    ∙ ap shape_of (second_region accepted_kinds (part head_length a.circuit a.certificate.now) a.certificate.now (kind (goal.at.returns-then-kind-eq-REGION c).In-Whole) (end (goal.at.returns-then-kind-eq-REGION c).In-Whole) (contents (goal.at.returns-then-kind-eq-REGION c).In-Whole)
+    ∙ sym (ap (λ (s : Split). shape_of (second_of accepted_kinds (part head_length a.circuit a.certificate.now) s))
+    (found (goal.at.returns-then-kind-eq-REGION c).In-Whole).splits
+    ∙ ap shape_of (second_region accepted_kinds (part head_length a.circuit a.certificate.now) a.certificate.now
+    (kind (goal.at.returns-then-kind-eq-REGION c).In-Whole) (end (goal.at.returns-then-kind-eq-REGION c).In-Whole)
+    (contents (goal.at.returns-then-kind-eq-REGION c).In-Whole)
     c.if-kind-eq-REGION.true))
 
 pub returns-then-kind-ne-ATTACKS : goal.returns-then-kind-ne-ATTACKS
 unfolding shape_of second_of
 returns-then-kind-ne-ATTACKS c =
     let a = c.args in
-    sym (ap (λ (s : Split). shape_of (second_of accepted_kinds (part head_length a.circuit a.certificate.now) s)) (found (goal.at.returns-then-kind-ne-ATTACKS c).In-Whole).splits
-    ∙ ap shape_of (second-other accepted_kinds (part head_length a.circuit a.certificate.now) a.certificate.now (kind (goal.at.returns-then-kind-ne-ATTACKS c).In-Whole) (end (goal.at.returns-then-kind-ne-ATTACKS c).In-Whole) (contents (goal.at.returns-then-kind-ne-ATTACKS c).In-Whole)
+    sym (ap (λ (s : Split). shape_of (second_of accepted_kinds (part head_length a.circuit a.certificate.now) s))
+    (found (goal.at.returns-then-kind-ne-ATTACKS c).In-Whole).splits
+    ∙ ap shape_of (second-other accepted_kinds (part head_length a.circuit a.certificate.now) a.certificate.now
+    (kind (goal.at.returns-then-kind-ne-ATTACKS c).In-Whole) (end (goal.at.returns-then-kind-ne-ATTACKS c).In-Whole)
+    (contents (goal.at.returns-then-kind-ne-ATTACKS c).In-Whole)
     c.if-kind-eq-REGION.false c.if-kind-ne-ATTACKS.true))
 
 pub returns-then-end-certificate : goal.returns-then-end-certificate
 unfolding shape_of second_of
 returns-then-end-certificate c =
     let a = c.args in
-    sym (ap (λ (s : Split). shape_of (second_of accepted_kinds (part head_length a.circuit a.certificate.now) s)) (found (goal.at.returns-then-end-certificate c).In-Whole).splits
-    ∙ ap shape_of (second_more accepted_kinds (part head_length a.circuit a.certificate.now) a.certificate.now (kind (goal.at.returns-then-end-certificate c).In-Whole) (end (goal.at.returns-then-end-certificate c).In-Whole) (contents (goal.at.returns-then-end-certificate c).In-Whole)
+    sym (ap (λ (s : Split). shape_of (second_of accepted_kinds (part head_length a.circuit a.certificate.now) s))
+    (found (goal.at.returns-then-end-certificate c).In-Whole).splits
+    ∙ ap shape_of (second_more accepted_kinds (part head_length a.circuit a.certificate.now) a.certificate.now
+    (kind (goal.at.returns-then-end-certificate c).In-Whole) (end (goal.at.returns-then-end-certificate c).In-Whole)
+    (contents (goal.at.returns-then-end-certificate c).In-Whole)
     c.if-kind-eq-REGION.false (found (goal.at.returns-then-end-certificate c).In-Whole).within c.if-end-certificate.true))
 
 pub returns : goal.returns
@@ -70,10 +83,17 @@ unfolding shape_of second_of
 returns c =
     let a = c.args in
     let p = c.requires in
-    shape_attacks (part head_length a.circuit a.certificate.now) (contents (goal.at.returns c).In-Whole) a.circuit c.in-Whole.start (end (goal.at.returns c).In-Whole)
+    shape_attacks (part head_length a.circuit a.certificate.now) (contents (goal.at.returns c).In-Whole) a.circuit c.in-Whole.start
+    (end (goal.at.returns c).In-Whole)
     (omega (arith, length_part head_length a.circuit a.certificate.now p.inside, p))
     (found (goal.at.returns c).In-Whole).begins
-    (omega (arith, length_part c.in-Whole.start (end (goal.at.returns c).In-Whole) a.certificate.now (found (goal.at.returns c).In-Whole).within, found (goal.at.returns c).In-Whole))
+    (omega (
+      arith,
+      length_part c.in-Whole.start (end (goal.at.returns c).In-Whole) a.certificate.now (found (goal.at.returns c).In-Whole).within,
+      found
+          (goal.at.returns c).In-Whole,
+    ))
     ∙ sym (ap (λ (s : Split). shape_of (second_of accepted_kinds (part head_length a.circuit a.certificate.now) s)) (found (goal.at.returns c).In-Whole).splits
-    ∙ ap shape_of (second_is accepted_kinds (part head_length a.circuit a.certificate.now) a.certificate.now (kind (goal.at.returns c).In-Whole) (end (goal.at.returns c).In-Whole) (contents (goal.at.returns c).In-Whole)
+    ∙ ap shape_of (second_is accepted_kinds (part head_length a.circuit a.certificate.now) a.certificate.now (kind (goal.at.returns c).In-Whole)
+    (end (goal.at.returns c).In-Whole) (contents (goal.at.returns c).In-Whole)
     c.if-kind-eq-REGION.false c.if-kind-ne-ATTACKS.false c.if-end-certificate.false))

@@ -47,7 +47,9 @@ returns-then-not-is_accepted c =
     let a = c.args in
     let l = a.certificate.now in
     sym (ap (by l a.circuit a.region a.behind) (found (goal.at.returns-then-not-is_accepted c).In-Whole).splits
-    ∙ ap shape_of (third-other accepted_kinds (part head_length a.circuit l) (part a.region a.behind l) l (kind (goal.at.returns-then-not-is_accepted c).In-Whole) (end (goal.at.returns-then-not-is_accepted c).In-Whole) (contents (goal.at.returns-then-not-is_accepted c).In-Whole)
+    ∙ ap shape_of (third-other accepted_kinds (part head_length a.circuit l) (part a.region a.behind l) l
+    (kind (goal.at.returns-then-not-is_accepted c).In-Whole) (end (goal.at.returns-then-not-is_accepted c).In-Whole)
+    (contents (goal.at.returns-then-not-is_accepted c).In-Whole)
     (sym c.is_accepted.ensures ∙ c.if-not-is_accepted.true)))
 
 pub returns-then-certificate-end : goal.returns-then-certificate-end
@@ -56,7 +58,9 @@ returns-then-certificate-end c =
     let a = c.args in
     let l = a.certificate.now in
     sym (ap (by l a.circuit a.region a.behind) (found (goal.at.returns-then-certificate-end c).In-Whole).splits
-    ∙ ap shape_of (third_more accepted_kinds (part head_length a.circuit l) (part a.region a.behind l) l (kind (goal.at.returns-then-certificate-end c).In-Whole) (end (goal.at.returns-then-certificate-end c).In-Whole) (contents (goal.at.returns-then-certificate-end c).In-Whole)
+    ∙ ap shape_of (third_more accepted_kinds (part head_length a.circuit l) (part a.region a.behind l) l
+    (kind (goal.at.returns-then-certificate-end c).In-Whole) (end (goal.at.returns-then-certificate-end c).In-Whole)
+    (contents (goal.at.returns-then-certificate-end c).In-Whole)
     (found (goal.at.returns-then-certificate-end c).In-Whole).within (λ e. c.if-certificate-end.true (sym e))))
 
 pub returns : goal.returns
@@ -70,7 +74,13 @@ returns c =
     (part a.region a.behind l) (kind (goal.at.returns c).In-Whole) a.region a.behind p.region_value
     (omega (arith, length_part a.region a.behind l p.within_2.inside, p.within_2))
     (found (goal.at.returns c).In-Whole).begins
-    (omega (arith, length_part c.in-Whole.start (end (goal.at.returns c).In-Whole) l (found (goal.at.returns c).In-Whole).within, found (goal.at.returns c).In-Whole))
+    (omega (
+      arith,
+      length_part c.in-Whole.start (end (goal.at.returns c).In-Whole) l (found (goal.at.returns c).In-Whole).within,
+      found
+          (goal.at.returns c).In-Whole,
+    ))
     ∙ sym (ap (by l a.circuit a.region a.behind) (found (goal.at.returns c).In-Whole).splits
-    ∙ ap shape_of (third-is accepted_kinds (part head_length a.circuit l) (part a.region a.behind l) l (kind (goal.at.returns c).In-Whole) (end (goal.at.returns c).In-Whole) (contents (goal.at.returns c).In-Whole)
+    ∙ ap shape_of (third-is accepted_kinds (part head_length a.circuit l) (part a.region a.behind l) l (kind (goal.at.returns c).In-Whole)
+    (end (goal.at.returns c).In-Whole) (contents (goal.at.returns c).In-Whole)
     (sym c.is_accepted.ensures ∙ c.if-not-is_accepted.false) (sym c.if-certificate-end.false)))

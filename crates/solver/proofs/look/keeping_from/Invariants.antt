@@ -10,7 +10,8 @@ use Rattle.solver.specs.Inner.Planes.{AllHeld}
 use Rattle.solver.proofs.look.keeping_from.Given as goal
 
 abbrev pub invariant-loop-m : goal.invariant-loop-m
-invariant-loop-m l = Searched (move_keeps l.net (not_ranked (ranks_in l.ranks) l.bound)) l.from l.end l.m × AllHeld l.net l.planes × (length l.planes ≡ length l.initial.planes)
+invariant-loop-m l =
+    Searched (move_keeps l.net (not_ranked (ranks_in l.ranks) l.bound)) l.from l.end l.m × AllHeld l.net l.planes × (length l.planes ≡ length l.initial.planes)
 
 abbrev pub decreases-loop-m : goal.decreases-loop-m
 decreases-loop-m l = l.end - l.m

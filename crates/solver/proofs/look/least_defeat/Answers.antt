@@ -67,7 +67,11 @@ look_on-control-requires c = let a = c.args in
     let l = c.loop-place in
     let more = c.loop-place-test.true in
     let here : l.place < places net =
-    omega (arith, more, state_places net ranks a.bound a.state u.result c.requires.state_bound u.ensures) in record { place_bound = here; kept = l.invariant.1; behind = failed_behind net ranks a.bound l.place _ _ l.invariant.1 here (l.invariant.0.fails more) }
+    omega (arith, more, state_places net ranks a.bound a.state u.result c.requires.state_bound u.ensures) in record {
+      place_bound = here;
+      kept = l.invariant.1;
+      behind = failed_behind net ranks a.bound l.place _ _ l.invariant.1 here (l.invariant.0.fails more);
+    }
 
 pub overflow_sub-result : goal.overflow_sub-result
 overflow_sub-result c = c.loop-place.invariant.0.started

@@ -8,7 +8,8 @@ use Rattle.solver.proofs.Laws.Moves.{moves_fit, few_controls_lem}
 use Rattle.solver.proofs.look.look_on.Goals as goal
 
 pub overflow_mul-first : goal.overflow_mul-first
-overflow_mul-first c = omega (arith, moves_fit c.args.net.now c.requires.kept.small c.args.place c.controls-n.result c.requires.place_bound c.controls-n.ensures)
+overflow_mul-first c =
+    omega (arith, moves_fit c.args.net.now c.requires.kept.small c.args.place c.controls-n.result c.requires.place_bound c.controls-n.ensures)
 
 pub overflow_cast-from : goal.overflow_cast-from
 overflow_cast-from c = omega (arith, (c.requires.kept.at c.args.place c.requires.place_bound).few, few_controls_lem c.args.net.now c.requires.kept.small)
@@ -29,7 +30,12 @@ overflow_add-first c = omega (
 )
 
 pub keeping_from-found-requires : goal.keeping_from-found-requires
-keeping_from-found-requires c = let n = c.controls-n in record { small = c.requires.kept.small; all_held = c.requires.kept.held; from_le_end = omega (arith, (c.requires.kept.at c.args.place c.requires.place_bound).few, n.ensures); end_bound = moves_fit c.args.net.now c.requires.kept.small c.args.place n.result c.requires.place_bound n.ensures }
+keeping_from-found-requires c = let n = c.controls-n in record {
+  small = c.requires.kept.small;
+  all_held = c.requires.kept.held;
+  from_le_end = omega (arith, (c.requires.kept.at c.args.place c.requires.place_bound).few, n.ensures);
+  end_bound = moves_fit c.args.net.now c.requires.kept.small c.args.place n.result c.requires.place_bound n.ensures;
+}
 
 pub overflow_add-first-2 : goal.overflow_add-first-2
 overflow_add-first-2 c = omega (

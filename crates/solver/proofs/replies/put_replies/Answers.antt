@@ -37,7 +37,11 @@ loop-i-init c = (
 )
 
 pub reply_at-reply-requires : goal.reply_at-reply-requires
-reply_at-reply-requires c = let l = c.loop-i in record { by_index = c.requires.by_index; place_bound = omega (arith, c.loop-i-test.true, l.invariant.2); kept = l.invariant.3 }
+reply_at-reply-requires c = let l = c.loop-i in record {
+  by_index = c.requires.by_index;
+  place_bound = omega (arith, c.loop-i-test.true, l.invariant.2);
+  kept = l.invariant.3;
+}
 
 pub bounds-replies-i : goal.bounds-replies-i
 bounds-replies-i c = let l = c.loop-i in

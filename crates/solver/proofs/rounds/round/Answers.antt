@@ -41,7 +41,11 @@ bounds-attacks-s c = let l = c.loop-s in
     )
 
 pub ranked-given-requires : goal.ranked-given-requires
-ranked-given-requires c = let l = c.loop-s in record { k_bound = c.requires.k_bound; state_bound = omega (arith, c.loop-s-test.true, l.invariant.5); kept = l.invariant.2 }
+ranked-given-requires c = let l = c.loop-s in record {
+  k_bound = c.requires.k_bound;
+  state_bound = omega (arith, c.loop-s-test.true, l.invariant.5);
+  kept = l.invariant.2;
+}
 
 pub offset_bounds-after-s : goal.offset_bounds-after-s
 offset_bounds-after-s c = let l = c.loop-s in

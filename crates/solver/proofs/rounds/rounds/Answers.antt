@@ -49,7 +49,11 @@ overflow_cast-k c = let l = c.loop-k in
     omega (arith, l.invariant.0.within, few (goal.at.overflow_cast-k c).Start)
 
 pub round-after-requires : goal.round-after-requires
-round-after-requires c = let l = c.loop-k in record { k_bound = omega (arith, l.invariant.0.within, few (goal.at.round-after-requires c).Start); attacks_len = l.invariant.1.long; kept = l.invariant.2 }
+round-after-requires c = let l = c.loop-k in record {
+  k_bound = omega (arith, l.invariant.0.within, few (goal.at.round-after-requires c).Start);
+  attacks_len = l.invariant.1.long;
+  kept = l.invariant.2;
+}
 
 pub slice_bounds-changes-end : goal.slice_bounds-changes-end
 slice_bounds-changes-end c = let l = c.loop-k in
@@ -63,7 +67,10 @@ slice_bounds-changes-end-in-loop-k c = let r = c.round-after in
 
 pub changes-changed-requires : goal.changes-changed-requires
 changes-changed-requires c = let l = c.loop-k in
-    let r = c.round-after in record { states_in_bounds = omega (arith, few (goal.at.changes-changed-requires c).Start, l.invariant.5, ranked_long _ _ _ l.ranks l.invariant.0); states_in_bounds_2 = omega (arith, few (goal.at.changes-changed-requires c).Start, l.invariant.5, round_long _ _ _ _ r.result r.ensures.0) }
+    let r = c.round-after in record {
+      states_in_bounds = omega (arith, few (goal.at.changes-changed-requires c).Start, l.invariant.5, ranked_long _ _ _ l.ranks l.invariant.0);
+      states_in_bounds_2 = omega (arith, few (goal.at.changes-changed-requires c).Start, l.invariant.5, round_long _ _ _ _ r.result r.ensures.0);
+    }
 
 pub shape_of-attacks-then-not-changed : goal.shape_of-attacks-then-not-changed
 shape_of-attacks-then-not-changed c = let l = c.loop-k in

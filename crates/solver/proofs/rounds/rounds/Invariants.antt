@@ -13,7 +13,8 @@ use Rattle.solver.proofs.rounds.rounds.Given as goal
 
 abbrev pub invariant-loop-k : goal.invariant-loop-k
 invariant-loop-k l = Ranked (net_game l.net) (2 ^ net_latches l.net) l.k l.ranks × AttacksAre (net_game l.net) l.ranks l.attacks
-    × Kept l.net (ranks_in l.ranks) l.k l.kept l.planes × (length l.kept ≡ length l.initial.kept) × (length l.planes ≡ length l.initial.planes) × (l.n ≡ 2 ^ net_latches l.net)
+    × Kept l.net (ranks_in l.ranks) l.k l.kept l.planes × (length l.kept ≡ length l.initial.kept) × (length l.planes ≡ length l.initial.planes) ×
+    (l.n ≡ 2 ^ net_latches l.net)
 
 abbrev pub decreases-loop-k : goal.decreases-loop-k
 decreases-loop-k l = l.n - l.k

@@ -23,7 +23,10 @@ pub overflow_mul-n : goal.overflow_mul-n
 overflow_mul-n c = omega (arith, few (goal.at.overflow_mul-n c).Start)
 
 pub cells_length-cells-requires : goal.cells_length-cells-requires
-cells_length-cells-requires c = record { n_bound = few (goal.at.cells_length-cells-requires c).Start; controls_le_controllable = c.requires.controls_le_controllable }
+cells_length-cells-requires c = record {
+  n_bound = few (goal.at.cells_length-cells-requires c).Start;
+  controls_le_controllable = c.requires.controls_le_controllable;
+}
 
 pub overflow_add-file-3 : goal.overflow_add-file-3
 overflow_add-file-3 c = omega (arith, few (goal.at.overflow_add-file-3 c).Start, c.requires.states_bound, c.cells_length-cells.ensures.upper_bound)

@@ -11,7 +11,10 @@ overflow_add-result c = omega (arith, c.requires.n_bound, few_bits c.args.n c.ar
 
 pub returns-then-kind-eq-PACKED : goal.returns-then-kind-eq-PACKED
 returns-then-kind-eq-PACKED c =
-    let a = c.args in record { value = packed_long a.kind a.n a.controls c.if-kind-eq-PACKED.true; upper_bound = omega (arith, few_bits a.n a.controls c.requires.controls_le_controllable) }
+    let a = c.args in record {
+      value = packed_long a.kind a.n a.controls c.if-kind-eq-PACKED.true;
+      upper_bound = omega (arith, few_bits a.n a.controls c.requires.controls_le_controllable);
+    }
 
 pub returns : goal.returns
 returns c = let a = c.args in record { value = bytes_long a.kind a.n a.controls c.if-kind-eq-PACKED.false; upper_bound = omega arith }
