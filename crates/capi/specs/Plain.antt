@@ -42,7 +42,5 @@ print_answer (refused number place) = record { number = number; place = place; b
 -- where the contents of the first record stand, given that it is the circuit record
 unfoldable pub circuit_part : Split → Part
 circuit_part cut = record { start = 0; bytes = 0 }
-circuit_part (whole kind contents rest) = cond (eqb kind circuit_kind) (record {
-  start = head_length;
-  bytes = length contents;
-}) (record { start = 0; bytes = 0 })
+circuit_part (whole kind contents rest) =
+    cond (eqb kind circuit_kind) (record { start = head_length; bytes = length contents }) (record { start = 0; bytes = 0 })
