@@ -73,9 +73,9 @@ fn badly_sized<'a>(
     readings: usize,
     controls: usize,
 ) -> bool
-    requires latches_le_latches { latches ≤ base.latches }
-    requires readings_le_uncontrollable { readings ≤ base.uncontrollable }
-    requires controls_le_controllable { controls ≤ base.controllable }
+    requires few_latches { latches ≤ base.latches }
+    requires few_readings { readings ≤ base.uncontrollable }
+    requires few_controls { controls ≤ base.controllable }
     ensures { result ≡ badly_sized region.now kind table.now latches readings controls }
 {
     let states = power(latches);
@@ -90,9 +90,9 @@ fn badly_sized<'a>(
 
 // Whether a reply table has a wrong length for its kind or an unused bit that is 1.
 fn bad_replies(kind: u16, table: &[u8], latches: usize, readings: usize, controls: usize) -> bool
-    requires latches_le_latches { latches ≤ base.latches }
-    requires readings_le_uncontrollable { readings ≤ base.uncontrollable }
-    requires controls_le_controllable { controls ≤ base.controllable }
+    requires few_latches { latches ≤ base.latches }
+    requires few_readings { readings ≤ base.uncontrollable }
+    requires few_controls { controls ≤ base.controllable }
     ensures { result ≡ bad_replies kind table.now latches readings controls }
 {
     let places = power(latches + readings);

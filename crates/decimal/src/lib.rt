@@ -35,7 +35,7 @@ pub fn put_decimal(out: &mut [u8], at: usize, n: u64) -> usize
 
 // Puts the digits of n at a place of the buffer, the last one first.
 fn spell(out: &mut [u8], at: usize, digits: usize, n: u64)
-    requires digits_value { digits ≡ length (decimal n) }
+    requires digits_is { digits ≡ length (decimal n) }
     requires digits_in_bounds { at + digits ≤ length out.old }
     ensures { out.new ≡ sets out.old at (decimal n) }
 {

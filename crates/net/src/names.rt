@@ -38,7 +38,7 @@ pub(crate) fn name_inputs<'a>(
 )
     requires variable_in_bounds { base.variable < length names.old }
     requires inputs_in_bounds { inputs ≤ length input.now }
-    requires inputs_le_inputs { inputs ≤ base.inputs }
+    requires few_inputs { inputs ≤ base.inputs }
     requires controls_le_inputs { controls ≤ inputs }
     ensures { names_in names.new
         ≡ name_inputs (inputs_of (take inputs input.now) controllable.now) 1 (1 + controls) (names_in names.old) }
@@ -65,8 +65,8 @@ pub(crate) fn name_latches<'a>(
 )
     requires variable_in_bounds { base.variable < length names.old }
     requires latches_in_bounds { latches ≤ length latch.now }
-    requires latches_le_latches { latches ≤ base.latches }
-    requires inputs_le_inputs { inputs ≤ base.inputs }
+    requires few_latches { latches ≤ base.latches }
+    requires few_inputs { inputs ≤ base.inputs }
     ensures { names_in names.new
         ≡ name_latches (latches_of (take latches latch.now) next.now) (1 + inputs) (names_in names.old) }
 {

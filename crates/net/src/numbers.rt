@@ -33,11 +33,11 @@ pub(crate) fn put_gates<'a>(
 )
     requires variable_in_bounds { base.variable < length names.old }
     requires gates_in_bounds { gates ≤ length gate.now }
-    requires gates_le_variable { gates ≤ base.variable }
-    requires latches_le_latches { latches ≤ base.latches }
-    requires inputs_le_inputs { inputs ≤ base.inputs }
-    requires gates_in_bounds_2 { 4 + latches + 2 * gates ≤ length numbers.old }
-    requires by_index { (u : ℕ) → names_in names.old u < 1 + inputs + latches }
+    requires few_gates { gates ≤ base.variable }
+    requires few_latches { latches ≤ base.latches }
+    requires few_inputs { inputs ≤ base.inputs }
+    requires room { 4 + latches + 2 * gates ≤ length numbers.old }
+    requires names_below { (u : ℕ) → names_in names.old u < 1 + inputs + latches }
     ensures numbers_after { numbers.new ≡ sets numbers.old (4 + latches)
         (operands_of (gates_of (take gates gate.now) left.now right.now) (1 + inputs + latches)
         (names_in names.old)) }
@@ -69,9 +69,9 @@ pub(crate) fn put_nexts<'a>(
     latches: usize,
 )
     requires latches_in_bounds { latches ≤ length latch.now }
-    requires latches_le_latches { latches ≤ base.latches }
-    requires latches_in_bounds_2 { 4 + latches ≤ length numbers.old }
-    requires by_index { (v : ℕ) → names_in names.now v < variables }
+    requires few_latches { latches ≤ base.latches }
+    requires room { 4 + latches ≤ length numbers.old }
+    requires names_below { (v : ℕ) → names_in names.now v < variables }
     ensures { numbers.new ≡ sets numbers.old 4
         (map (λ (l : Latch). net_literal (names_in names.now) l.next) (latches_of (take latches latch.now) next.now)) }
 {
@@ -92,9 +92,9 @@ pub(crate) fn put_head(
     output: u16,
 )
     requires controls_le_inputs { controls ≤ inputs }
-    requires inputs_le_inputs { inputs ≤ base.inputs }
-    requires latches_le_latches { latches ≤ base.latches }
-    requires in_bounds { 4 ≤ length numbers.old }
+    requires few_inputs { inputs ≤ base.inputs }
+    requires few_latches { latches ≤ base.latches }
+    requires room { 4 ≤ length numbers.old }
     ensures { numbers.new ≡ sets numbers.old 0 (controls ∷ (inputs - controls) ∷ latches ∷ output ∷ []) }
 {
     numbers[0] = controls as u16;

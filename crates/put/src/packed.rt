@@ -29,7 +29,7 @@ pub fn pack(numbers: &[u8], width: usize, n: usize, out: &mut [u8], at: usize) -
 // Byte after byte, where there is room for them.
 fn put_packed(numbers: &[u8], w: usize, n: usize, out: &mut [u8], at: usize, many: usize)
     requires w_bound { w ≤ 8 }
-    requires many_value { many ≡ (n * w + 7) / 8 }
+    requires many_is { many ≡ (n * w + 7) / 8 }
     requires many_in_bounds { at + many ≤ length out.old }
     ensures { out.new ≡ sets out.old at (packed_bytes (λ k. get_or numbers.now k 0) w n) }
 {

@@ -56,8 +56,8 @@ fn behind_circuit(certificate: &[u8], circuit: usize) -> Shape
 // What stands behind the region record, whose contents start at `region` and end at `behind`.
 fn behind_region(certificate: &[u8], circuit: usize, region: usize, behind: usize) -> Shape
     requires within { Within certificate.now head_length circuit }
-    requires within_2 { Within certificate.now region behind }
-    requires region_value { region ≡ circuit + head_length }
+    requires region_within { Within certificate.now region behind }
+    requires region_start { region ≡ circuit + head_length }
     ensures { result ≡ behind_region certificate.now circuit region behind }
 {
     let RecordAt::Whole { kind, start, end } = record_at(certificate, behind) else {

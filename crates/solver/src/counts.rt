@@ -19,8 +19,8 @@ pub struct Counts {
 
 pub fn counted(c: Circuit) -> Counts
     ensures value { result ≡ counts_of (solvable (meant c)) }
-    ensures latches_le_latches { result.latches ≤ base.latches }
-    ensures uncontrollable_le_uncontrollable { result.uncontrollable ≤ base.uncontrollable }
+    ensures few_latches { result.latches ≤ base.latches }
+    ensures few_readings { result.uncontrollable ≤ base.uncontrollable }
 {
     counted_lent(c.inputs, &c.input, &c.controllable, c.latches, &c.latch)
 }
@@ -33,8 +33,8 @@ fn counted_lent<'a>(
     latch: &'a [u16],
 ) -> Counts
     ensures counts_are { CountsAre result (take inputs input.now) controllable.now (take latches latch.now) }
-    ensures latches_le_latches { result.latches ≤ base.latches }
-    ensures uncontrollable_le_uncontrollable { result.uncontrollable ≤ base.uncontrollable }
+    ensures few_latches { result.latches ≤ base.latches }
+    ensures few_readings { result.uncontrollable ≤ base.uncontrollable }
 {
     let i = below::fewer(inputs, input.len());
     let u = uncontrollable_count(&input[..i], controllable);

@@ -24,7 +24,7 @@ pub(crate) fn hold<'a>(
     requires all_held { AllHeld net.now planes.old }
     requires block_bound { block < 131072 }
     ensures holds { Holds net.now planes.new result block }
-    ensures all_held_2 { AllHeld net.now planes.new }
+    ensures still_held { AllHeld net.now planes.new }
 {
     let i = slot_of(net, block, planes.len() / SLOT);
     let at = i * SLOT;

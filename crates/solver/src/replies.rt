@@ -23,8 +23,8 @@ pub(crate) fn put_replies<'a>(
     k: u16,
     replies: &mut [u8],
 )
-    requires by_index { (t : ℕ) → ranks_in ranks.now t ≤ k }
-    requires replies_value { replies.old ≡ table (λ i. 0) (2 ^ base.latches * 2 ^ base.uncontrollable) }
+    requires ranks_bound { (t : ℕ) → ranks_in ranks.now t ≤ k }
+    requires replies_blank { replies.old ≡ table (λ i. 0) (2 ^ base.latches * 2 ^ base.uncontrollable) }
     requires kept { Kept net.now (ranks_in ranks.now) k kept.old planes.old }
     ensures { replies.new ≡ replies_over net.now ranks.now }
 {
@@ -53,7 +53,7 @@ fn reply_at<'a>(
     k: u16,
     place: usize,
 ) -> u8
-    requires by_index { (t : ℕ) → ranks_in ranks.now t ≤ k }
+    requires ranks_bound { (t : ℕ) → ranks_in ranks.now t ≤ k }
     requires place_bound { place < places net.now }
     requires kept { Kept net.now (ranks_in ranks.now) k kept.old planes.old }
     ensures { Replied net.now ranks.now k place result kept.new planes.new }

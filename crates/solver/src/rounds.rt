@@ -50,7 +50,7 @@ fn rounds(
     planes: &mut [u64],
     attacks: &mut [u8],
 ) -> [u16; Circuit::STATES]
-    requires attacks_value { attacks.old ≡ table (λ s. 0) (2 ^ base.latches) }
+    requires attacks_blank { attacks.old ≡ table (λ s. 0) (2 ^ base.latches) }
     requires kept { Kept net.now (ranks_in (table (λ s. 0) (2 ^ base.latches))) 0 kept.old planes.old }
     ensures { AllRounds net.now result attacks.new kept.new planes.new }
 {
@@ -154,7 +154,7 @@ fn ranked<'a>(
 // Some state's rank differs.
 fn changes<'a>(ranks: &'a [u16], after: &'a [u16], states: usize) -> bool
     requires states_in_bounds { states ≤ length ranks.now }
-    requires states_in_bounds_2 { states ≤ length after.now }
+    requires states_in_after { states ≤ length after.now }
     ensures { result ≡ any (λ s. not (eqb (ranks_in ranks.now s) (ranks_in after.now s))) states }
 {
     let mut s = 0;

@@ -143,7 +143,7 @@ fn step_in<'a>(
     control: Control,
 ) -> Stepped
     requires variable_bound { base.variable < 8 * length values.old }
-    requires values_value { truths values.old ≡ (λ v. false) }
+    requires values_blank { truths values.old ≡ (λ v. false) }
     ensures { result ≡ step_of (lent 0 input.now controllable.now latch.now next.now output
         gate.now left.now right.now) state reading.0 control.0 }
 {

@@ -28,7 +28,7 @@ pub(crate) fn certify_replies<'a>(
 ) -> Certified
     requires states_bound { states ≤ 2 ^ base.latches }
     requires readings_bound { readings ≤ 2 ^ base.uncontrollable }
-    requires controls_le_controllable { controls ≤ base.controllable }
+    requires few_controls { controls ≤ base.controllable }
     requires replies_len { length replies.now ≡ 2 ^ base.latches * 2 ^ base.uncontrollable }
     ensures { (c : Circuit) → Replied c states readings controls ranks.now replies.now
         → CertifiedAs kind file.now (taken c) out.old out.new result }

@@ -30,7 +30,7 @@ pub(crate) fn put_region(out: &mut [u8], at: usize, ranks: &[u16], states: usize
 // How many bytes n replies take in a reply record of a kind.
 pub(crate) fn cells_length(kind: u16, n: usize, controls: usize) -> usize
     requires n_bound { n ≤ 2 ^ base.latches * 2 ^ base.uncontrollable }
-    requires controls_le_controllable { controls ≤ base.controllable }
+    requires few_controls { controls ≤ base.controllable }
     ensures value { result ≡ cells_length kind n controls }
     ensures upper_bound { result ≤ n }
 {
@@ -51,7 +51,7 @@ pub(crate) fn put_cells(
 ) -> usize
     requires at_bound { at ≤ 2 ^ 63 }
     requires n_in_bounds { n ≤ length replies.now }
-    requires controls_le_controllable { controls ≤ base.controllable }
+    requires few_controls { controls ≤ base.controllable }
     ensures { Wrote (cells_of kind replies.now n controls) at out.old out.new result }
 {
     if kind == PACKED {

@@ -1,4 +1,4 @@
--- `blocks::next_in` meets its contract: the bits from k on add up to the state, and k counts down to 0.
+-- What `blocks::next_in` keeps from turn to turn: the bits from k on add up to the state, and k counts down to 0.
 use Prim.Native.Nat.{min}
 use lib.ListN.{length}
 use Rattle.circuit.specs.Limits.{base}

@@ -10,7 +10,7 @@ use Rattle.decimal.proofs.spell.Goals as goal
 pub loop-left-init : goal.loop-left-init
 loop-left-init c =
     let a = c.args in
-    (omega arith, refl, ap (sets a.out.now a.at) (spelled-decimal a.digits a.n (sym c.requires.digits_value)))
+    (omega arith, refl, ap (sets a.out.now a.at) (spelled-decimal a.digits a.n (sym c.requires.digits_is)))
 
 pub loop-left-preserved : goal.loop-left-preserved
 loop-left-preserved c =

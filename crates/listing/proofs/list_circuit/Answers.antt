@@ -9,6 +9,6 @@ returns c =
     let s = c.solve-solved in
     let n = c.counted-n in
     let a = c.args in
-    same_written (solved_is_listing (solvable (meant a.c)) n.result s.result n.ensures.value n.ensures.latches_le_latches
-    n.ensures.uncontrollable_le_uncontrollable s.ensures)
+    same_written (solved_is_listing (solvable (meant a.c)) n.result s.result n.ensures.value n.ensures.few_latches
+    n.ensures.few_readings s.ensures)
     c.list_solved.ensures

@@ -74,7 +74,7 @@ pub name_inputs-requires : goal.name_inputs-requires
 name_inputs-requires c = record {
   variable_in_bounds = search rules;
   inputs_in_bounds = search rules;
-  inputs_le_inputs = search rules;
+  few_inputs = search rules;
   controls_le_inputs = few_controls_lem (goal.at.name_inputs-requires c).After-controls_of-controls;
 }
 
@@ -84,11 +84,11 @@ put_gates-requires c =
     let zeros = zeros_long (goal.at.put_gates-requires c).After-no_numbers-numbers in record {
       variable_in_bounds = search rules;
       gates_in_bounds = omega (arith, k.gates_read, k.gate_long);
-      gates_le_variable = omega (arith, k.gates_read);
-      latches_le_latches = omega (arith, k.latches_read);
-      inputs_le_inputs = omega (arith, k.inputs_read);
-      gates_in_bounds_2 = omega (arith, k.latches_read, k.gates_read, zeros);
-      by_index = first (goal.at.put_gates-requires c).After-name_latches k;
+      few_gates = omega (arith, k.gates_read);
+      few_latches = omega (arith, k.latches_read);
+      few_inputs = omega (arith, k.inputs_read);
+      room = omega (arith, k.latches_read, k.gates_read, zeros);
+      names_below = first (goal.at.put_gates-requires c).After-name_latches k;
     }
 
 pub put_nexts-requires : goal.put_nexts-requires
@@ -96,9 +96,9 @@ put_nexts-requires c =
     let k = counts (goal.at.put_nexts-requires c).After-controls_of-controls in
     let zeros = zeros_long (goal.at.put_nexts-requires c).After-no_numbers-numbers in record {
       latches_in_bounds = omega (arith, k.latches_read, k.latch_long);
-      latches_le_latches = omega (arith, k.latches_read);
-      latches_in_bounds_2 = omega (arith, k.latches_read, gates_kept (goal.at.put_nexts-requires c).After-put_gates, zeros);
-      by_index = all (goal.at.put_nexts-requires c).After-put_gates k;
+      few_latches = omega (arith, k.latches_read);
+      room = omega (arith, k.latches_read, gates_kept (goal.at.put_nexts-requires c).After-put_gates, zeros);
+      names_below = all (goal.at.put_nexts-requires c).After-put_gates k;
     }
 
 pub net_literal-output-requires : goal.net_literal-output-requires
@@ -110,9 +110,9 @@ put_head-requires c =
     let k = counts (goal.at.put_head-requires c).After-controls_of-controls in
     let zeros = zeros_long (goal.at.put_head-requires c).After-no_numbers-numbers in record {
       controls_le_inputs = few_controls_lem (goal.at.put_head-requires c).After-controls_of-controls;
-      inputs_le_inputs = omega (arith, k.inputs_read);
-      latches_le_latches = omega (arith, k.latches_read);
-      in_bounds = omega (arith, nexts_kept (goal.at.put_head-requires c).After-put_nexts, gates_kept (goal.at.put_head-requires c).After-put_gates, zeros);
+      few_inputs = omega (arith, k.inputs_read);
+      few_latches = omega (arith, k.latches_read);
+      room = omega (arith, nexts_kept (goal.at.put_head-requires c).After-put_nexts, gates_kept (goal.at.put_head-requires c).After-put_gates, zeros);
     }
 
 pub overflow_add-result : goal.overflow_add-result

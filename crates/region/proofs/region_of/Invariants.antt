@@ -1,4 +1,4 @@
--- `region::region_of` meets its contract: what is passed is as the bytes of the states say.
+-- What `region::region_of` keeps from turn to turn: what is passed is as the bytes of the states say.
 use Prim.Native.Nat.{◌-◌, ◌/◌, ◌^◌, ◌≤◌}
 use mathlib.Core.Path.{◌≡◌}
 use lib.ListN.{length}

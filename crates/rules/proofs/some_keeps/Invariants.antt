@@ -1,4 +1,4 @@
--- `rules::some_keeps` meets its contract: none of the lanes passed keeps. Assumes nothing.
+-- What `rules::some_keeps` keeps from turn to turn: none of the lanes passed keeps. Assumes nothing.
 use Prim.Native.Nat.{ℕ, ◌-◌}
 use mathlib.Core.Bool.{Bool}
 use mathlib.Core.List.{List}

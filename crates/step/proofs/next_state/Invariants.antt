@@ -1,4 +1,4 @@
--- `step::next_state` meets its contract: the bits from i on add up to the state, and i counts down to 0.
+-- What `step::next_state` keeps from turn to turn: the bits from i on add up to the state, and i counts down to 0.
 use Prim.Native.Nat.{min}
 use lib.ListN.{length}
 use Rattle.circuit.specs.Limits.{base}

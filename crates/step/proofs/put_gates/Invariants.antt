@@ -1,4 +1,4 @@
--- `step::put_gates` meets its contract: what is left to put, over what the bytes hold, gives the whole; each turn puts one gate.
+-- What `step::put_gates` keeps from turn to turn: what is left to put, over what the bytes hold, gives the whole; each turn puts one gate.
 use Prim.Native.Nat.{◌-◌}
 use lib.ListN.{length, drop}
 use Rattle.circuit.specs.Stored.{gates_of}

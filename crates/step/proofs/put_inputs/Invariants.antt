@@ -1,4 +1,4 @@
--- `step::put_inputs` meets its contract: what is left to put, over what the bytes hold, gives the whole; each turn puts one input.
+-- What `step::put_inputs` keeps from turn to turn: what is left to put, over what the bytes hold, gives the whole; each turn puts one input.
 use Prim.Native.Nat.{◌-◌}
 use lib.ListN.{length, drop}
 use Rattle.circuit.specs.Stored.{inputs_of}

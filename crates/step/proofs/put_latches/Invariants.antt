@@ -1,4 +1,4 @@
--- `step::put_latches` meets its contract: what is left to put, over what the bytes hold, gives the whole; each turn puts one latch.
+-- What `step::put_latches` keeps from turn to turn: what is left to put, over what the bytes hold, gives the whole; each turn puts one latch.
 use Prim.Native.Nat.{◌-◌, min}
 use lib.ListN.{length, drop}
 use Rattle.circuit.specs.Limits.{base}

@@ -12,7 +12,7 @@ returns c = let a = c.args in
     a.input.now a.controllable.now a.latch.now a.next.now a.output a.gate.now a.left.now a.right.now
     a.state a.reading.0 a.control.0
     (truths a.values.now) (truths c.put_inputs.new.values) (truths c.put_latches.new.values) val
-    c.requires.values_value c.put_inputs.ensures c.put_latches.ensures c.put_gates.ensures in
+    c.requires.values_blank c.put_inputs.ensures c.put_latches.ensures c.put_gates.ensures in
     let error = c.literal_value-error.ensures ∙ ap (literal_value val) c.literal.ensures in
     step_is
     a.input.now a.controllable.now a.latch.now a.next.now a.output a.gate.now a.left.now a.right.now

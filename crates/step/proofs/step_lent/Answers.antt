@@ -6,4 +6,4 @@ use Rattle.step.proofs.Laws.Truths.{zeros_false}
 use Rattle.step.proofs.step_lent.Goals as goal
 
 pub step_in-requires : goal.step_in-requires
-step_in-requires c = record { variable_bound = omega arith; values_value = zeros_false ((base.variable + 8) / 8) }
+step_in-requires c = record { variable_bound = omega arith; values_blank = zeros_false ((base.variable + 8) / 8) }

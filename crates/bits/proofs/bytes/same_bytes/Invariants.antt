@@ -1,4 +1,4 @@
--- `bits::bytes::same_bytes` meets its contract: lists of one length that agree at every place are equal. Assumes nothing.
+-- What `bits::bytes::same_bytes` keeps from turn to turn: lists of one length that agree at every place are equal. Assumes nothing.
 use Prim.Native.Nat.{ℕ, ◌≤◌, ◌<◌, ◌-◌}
 use mathlib.Core.Path.{◌≡◌}
 use lib.ListN.{length, get_or}

@@ -1,4 +1,4 @@
--- `bits::packed::packed_number` meets its contract: bit after bit is gathered, and no place wraps. Assumes nothing.
+-- What `bits::packed::packed_number` keeps from turn to turn: bit after bit is gathered, and no place wraps. Assumes nothing.
 use Prim.Native.Nat.{◌+◌, ◌*◌, ◌-◌}
 use Rattle.bits.specs.ByteBit.{byte_bit}
 use Rattle.bits.proofs.Laws.Gathered.{Gathered}

@@ -1,4 +1,4 @@
--- `bits::packed::unused_bit` meets its contract: none of the unused bits passed is 1. Assumes nothing.
+-- What `bits::packed::unused_bit` keeps from turn to turn: none of the unused bits passed is 1. Assumes nothing.
 use Prim.Native.Nat.{◌-◌}
 use lib.ListN.{length}
 use Rattle.bits.proofs.Laws.UnusedBytes.{NoneBefore}

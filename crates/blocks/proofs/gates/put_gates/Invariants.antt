@@ -1,4 +1,4 @@
--- `blocks::gates::put_gates` meets its contract: in each lane, what is left to put over what the words hold gives the whole; each turn puts one gate.
+-- What `blocks::gates::put_gates` keeps from turn to turn: in each lane, what is left to put over what the words hold gives the whole; each turn puts one gate.
 use Prim.Native.Nat.{◌-◌}
 use Rattle.blocks.proofs.Laws.Putting.{Run}
 use Rattle.blocks.proofs.gates.put_gates.Given as goal

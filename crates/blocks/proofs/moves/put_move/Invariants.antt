@@ -1,4 +1,4 @@
--- `blocks::moves::put_move` meets its contract: each turn puts one variable.
+-- What `blocks::moves::put_move` keeps from turn to turn: each turn puts one variable.
 use Prim.Native.Nat.{◌-◌}
 use Rattle.blocks.proofs.Laws.Putting.{Moved}
 use Rattle.blocks.proofs.moves.put_move.Given as goal

@@ -1,4 +1,4 @@
--- `checker::attacks::broken_attack` meets its contract: no attack of the states passed breaks the rule. Assumes nothing.
+-- What `checker::attacks::broken_attack` keeps from turn to turn: no attack of the states passed breaks the rule. Assumes nothing.
 use Prim.Native.Nat.{◌-◌}
 use Rattle.below.proofs.Laws.Passed.{Passed}
 use Rattle.checker.specs.Inner.Faults.{attack_fault}

@@ -1,4 +1,4 @@
--- `checker::attacks::is_answered` meets its contract: no control of the moves passed keeps; a block is tried lane by lane. Assumes nothing.
+-- What `checker::attacks::is_answered` keeps from turn to turn: no control of the moves passed keeps; a block is tried lane by lane. Assumes nothing.
 use Prim.Native.Nat.{◌+◌, ◌-◌, ◌^◌}
 use mathlib.Core.Path.{◌≡◌}
 use Rattle.game.specs.NetGame.{net_move}

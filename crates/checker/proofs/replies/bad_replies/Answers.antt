@@ -21,7 +21,7 @@ returns-then-kind-ne-PACKED c =
 few : (w : goal.After-power-places) → w.args.controls * w.power-places.result ≤ 2 ^ 18
 few w =
     few_bits w.args.kind w.args.table.now w.args.latches w.args.readings w.args.controls w.power-places.result w.power-places.ensures
-    w.requires.latches_le_latches w.requires.readings_le_uncontrollable w.requires.controls_le_controllable
+    w.requires.few_latches w.requires.few_readings w.requires.few_controls
 
 pub overflow_mul-bits : goal.overflow_mul-bits
 overflow_mul-bits c = omega (arith, few (goal.at.overflow_mul-bits c).After-power-places)

@@ -6,7 +6,7 @@ use Rattle.checker.proofs.Laws.Sizes.{region_long, region_unused, region_fine}
 use Rattle.checker.proofs.replies.badly_sized.Goals as goal
 
 pub overflow_add-states : goal.overflow_add-states
-overflow_add-states c = omega (arith, c.power-states.ensures, pow_mono {i = c.args.latches} {j = base.latches} c.requires.latches_le_latches)
+overflow_add-states c = omega (arith, c.power-states.ensures, pow_mono {i = c.args.latches} {j = base.latches} c.requires.few_latches)
 
 pub returns-then-region-states : goal.returns-then-region-states
 returns-then-region-states c =

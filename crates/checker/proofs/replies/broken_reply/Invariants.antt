@@ -1,4 +1,4 @@
--- `checker::replies::broken_reply` meets its contract: no reply of the places passed breaks the rule, and the words hold the block that was
+-- What `checker::replies::broken_reply` keeps from turn to turn: no reply of the places passed breaks the rule, and the words hold the block that was
 -- evaluated last. Assumes nothing.
 use Prim.Native.Nat.{◌-◌}
 use Rattle.below.proofs.Laws.Passed.{Passed}

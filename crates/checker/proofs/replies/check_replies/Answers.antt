@@ -8,9 +8,9 @@ use Rattle.checker.proofs.replies.check_replies.Goals as goal
 pub badly_sized-requires : goal.badly_sized-requires
 badly_sized-requires c =
     let p = c.requires in record {
-      latches_le_latches = omega (arith, c.latches_of-latches.ensures, p.order.states);
-      readings_le_uncontrollable = omega (arith, c.readings_of-readings.ensures, p.few_readings);
-      controls_le_controllable = omega (arith, c.controls_of-controls.ensures, p.few_controls);
+      few_latches = omega (arith, c.latches_of-latches.ensures, p.order.states);
+      few_readings = omega (arith, c.readings_of-readings.ensures, p.few_readings);
+      few_controls = omega (arith, c.controls_of-controls.ensures, p.few_controls);
     }
 
 pub returns-then-badly_sized : goal.returns-then-badly_sized

@@ -1,4 +1,4 @@
--- `circuit::counts::controllable_count` meets its contract: so many of the inputs passed are controllable. Assumes nothing.
+-- What `circuit::counts::controllable_count` keeps from turn to turn: so many of the inputs passed are controllable. Assumes nothing.
 use Prim.Native.Nat.{◌-◌}
 use lib.ListN.{length}
 use Rattle.circuit.proofs.Laws.Inputs.{Counting}

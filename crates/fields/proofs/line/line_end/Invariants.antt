@@ -1,4 +1,4 @@
--- `fields::line::line_end` meets its contract: what is left of the line, from each place on the way, ends where the line does.
+-- What `fields::line::line_end` keeps from turn to turn: what is left of the line, from each place on the way, ends where the line does.
 -- Assumes nothing.
 use Prim.Native.Nat.{◌+◌, ◌-◌}
 use mathlib.Core.Path.{◌≡◌}

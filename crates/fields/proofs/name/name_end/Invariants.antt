@@ -1,4 +1,4 @@
--- `fields::name::name_end` meets its contract: what is left of the name, from each place on the way, ends where the name does. Assumes nothing.
+-- What `fields::name::name_end` keeps from turn to turn: what is left of the name, from each place on the way, ends where the name does. Assumes nothing.
 use Prim.Native.Nat.{◌+◌, ◌-◌}
 use lib.ListN.{length, drop}
 use mathlib.Core.Path.{◌≡◌}

@@ -1,4 +1,4 @@
--- `fields::name::starts_with` meets its contract: what is left of the string, against what is left of the text. Assumes nothing.
+-- What `fields::name::starts_with` keeps from turn to turn: what is left of the string, against what is left of the text. Assumes nothing.
 use Prim.Native.Nat.{◌+◌, ◌-◌}
 use lib.ListN.{length, drop}
 use mathlib.Core.Path.{◌≡◌}

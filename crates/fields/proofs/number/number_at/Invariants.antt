@@ -1,4 +1,4 @@
--- `fields::number::number_at` meets its contract: the loop passes the run of digits, at most seven, and each way out is a test of the
+-- What `fields::number::number_at` keeps from turn to turn: the loop passes the run of digits, at most seven, and each way out is a test of the
 -- definition. Assumes nothing.
 use Prim.Native.Nat.{◌+◌, ◌-◌}
 use Rattle.fields.proofs.Laws.PositionNumber.{Scanning}

@@ -1,4 +1,4 @@
--- `fields::row::row_at` meets its contract: number after number, and what is left of the line equals the whole. Assumes nothing.
+-- What `fields::row::row_at` keeps from turn to turn: number after number, and what is left of the line equals the whole. Assumes nothing.
 use Prim.Native.Nat.{◌-◌}
 use Rattle.fields.proofs.Laws.RowLoop.{Reading}
 use Rattle.fields.proofs.row.row_at.Given as goal

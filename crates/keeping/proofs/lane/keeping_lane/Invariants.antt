@@ -1,4 +1,4 @@
--- `keeping::lane::keeping_lane` meets its contract: none of the lanes passed keeps.
+-- What `keeping::lane::keeping_lane` keeps from turn to turn: none of the lanes passed keeps.
 use Prim.Native.Nat.{◌-◌, min}
 use Rattle.below.proofs.Laws.LeastFrom.{Searched}
 use Rattle.game.specs.Rank.{not_ranked}

@@ -1,4 +1,4 @@
--- `keeping::lane::lane_number` meets its contract: the bits from k on add up to the number, and k counts down to 0.
+-- What `keeping::lane::lane_number` keeps from turn to turn: the bits from k on add up to the number, and k counts down to 0.
 use Prim.Native.Nat.{min}
 use lib.ListN.{length}
 use Rattle.circuit.specs.Limits.{base}

@@ -1,4 +1,4 @@
--- `keeping::rank_list::first_failed` meets its contract: no place passed failed.
+-- What `keeping::rank_list::first_failed` keeps from turn to turn: no place passed failed.
 use Prim.Native.Nat.{◌-◌}
 use Rattle.game.specs.Rank.{not_ranked}
 use Rattle.keeping.specs.RankList.{ranks_in}

@@ -1,4 +1,4 @@
--- `net::names::name_inputs` meets its contract: what is left to name over the names so far gives the whole; each turn names one input.
+-- What `net::names::name_inputs` keeps from turn to turn: what is left to name over the names so far gives the whole; each turn names one input.
 use Prim.Native.Nat.{◌+◌, ◌-◌}
 use lib.ListN.{take, drop}
 use Rattle.circuit.specs.Stored.{inputs_of}

@@ -27,7 +27,7 @@ loop-i-preserved c = let a = c.args in
     let l = c.loop-i in
     let h = c.loop-i-test.true in
     let p = c.requires in
-    let next = latches_named_next a.latch.now a.next.now a.latches p.latches_in_bounds p.latches_le_latches l.i (1 + a.inputs + l.i) (names_in l.names) h in
+    let next = latches_named_next a.latch.now a.next.now a.latches p.latches_in_bounds p.few_latches l.i (1 + a.inputs + l.i) (names_in l.names) h in
     let one : suc (1 + a.inputs + l.i) ≡ 1 + a.inputs + (l.i + 1) = omega arith in
     name_one a.latches l.i a.names.now l.names c.name_at.new.names _ _ _ l.invariant h (search rules)
     (cc (next, c.name_at.ensures, one))
@@ -36,5 +36,5 @@ pub returns : goal.returns
 returns c = let a = c.args in
     let l = c.loop-i in
     let p = c.requires in
-    sym (l.invariant.left ∙ latches_named_end a.latch.now a.next.now a.latches p.latches_in_bounds p.latches_le_latches l.i (1 + a.inputs + l.i)
+    sym (l.invariant.left ∙ latches_named_end a.latch.now a.next.now a.latches p.latches_in_bounds p.few_latches l.i (1 + a.inputs + l.i)
     (names_in l.names) c.loop-i-test.false)

@@ -1,4 +1,4 @@
--- `net::names::name_latches` meets its contract: what is left to name over the names so far gives the whole; each turn names one latch.
+-- What `net::names::name_latches` keeps from turn to turn: what is left to name over the names so far gives the whole; each turn names one latch.
 use Prim.Native.Nat.{◌+◌, ◌-◌}
 use lib.ListN.{take, drop}
 use Rattle.circuit.specs.Stored.{latches_of}

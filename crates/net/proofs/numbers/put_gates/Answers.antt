@@ -15,7 +15,7 @@ pub loop-i-init : goal.loop-i-init
 loop-i-init c = let a = c.args in
     let p = c.requires in
     gates_start a.gate.now a.left.now a.right.now a.gates p.gates_in_bounds (1 + a.inputs + a.latches) (4 + a.latches) a.numbers.now
-    a.names.now p.by_index
+    a.names.now p.names_below
 
 pub net_literal-a-requires : goal.net_literal-a-requires
 net_literal-a-requires c = let l = c.loop-i in below_more l.v variables (names_in l.names) l.invariant.below

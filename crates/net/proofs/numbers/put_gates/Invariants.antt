@@ -1,4 +1,4 @@
--- `net::numbers::put_gates` meets its contract: what is left to put and to name gives the whole; each turn does so with one gate.
+-- What `net::numbers::put_gates` keeps from turn to turn: what is left to put and to name gives the whole; each turn does so with one gate.
 use Prim.Native.Nat.{◌+◌, ◌-◌}
 use Rattle.net.proofs.Laws.Putting.{Gates}
 use Rattle.net.proofs.numbers.put_gates.Given as goal

@@ -9,10 +9,10 @@ use Rattle.net.proofs.numbers.put_nexts.Goals as goal
 pub loop-i-init : goal.loop-i-init
 loop-i-init c = let a = c.args in
     let p = c.requires in
-    nexts_start a.latch.now a.next.now a.latches p.latches_in_bounds p.latches_le_latches (names_in a.names.now) a.numbers.now
+    nexts_start a.latch.now a.next.now a.latches p.latches_in_bounds p.few_latches (names_in a.names.now) a.numbers.now
 
 pub net_literal-l-requires : goal.net_literal-l-requires
-net_literal-l-requires c = c.requires.by_index
+net_literal-l-requires c = c.requires.names_below
 
 pub bounds-numbers-i : goal.bounds-numbers-i
 bounds-numbers-i c = omega (arith, c.loop-i.invariant.long)
@@ -21,7 +21,7 @@ pub loop-i-preserved : goal.loop-i-preserved
 loop-i-preserved c = let a = c.args in
     let p = c.requires in
     let l = c.loop-i in
-    nexts_next a.latch.now a.next.now a.latches p.latches_in_bounds p.latches_le_latches (names_in a.names.now) a.numbers.now l.i c.net_literal-l.result
+    nexts_next a.latch.now a.next.now a.latches p.latches_in_bounds p.few_latches (names_in a.names.now) a.numbers.now l.i c.net_literal-l.result
     l.numbers l.invariant c.loop-i-test.true (c.net_literal-l.ensures ∙ ap (net_literal (names_in a.names.now))
     c.literal_at.ensures)
 
@@ -29,5 +29,5 @@ pub returns : goal.returns
 returns c = let a = c.args in
     let p = c.requires in
     let l = c.loop-i in
-    nexts_end a.latch.now a.next.now a.latches p.latches_in_bounds p.latches_le_latches (names_in a.names.now) a.numbers.now l.i l.numbers l.invariant
+    nexts_end a.latch.now a.next.now a.latches p.latches_in_bounds p.few_latches (names_in a.names.now) a.numbers.now l.i l.numbers l.invariant
     c.loop-i-test.false

@@ -1,4 +1,4 @@
--- `net::numbers::put_nexts` meets its contract: what is left to put gives the whole; each turn puts one literal.
+-- What `net::numbers::put_nexts` keeps from turn to turn: what is left to put gives the whole; each turn puts one literal.
 use Prim.Native.Nat.{◌-◌}
 use Rattle.net.specs.Inner.NamesIn.{names_in}
 use Rattle.net.proofs.Laws.Putting.{Nexts}

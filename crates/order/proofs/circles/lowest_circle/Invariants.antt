@@ -1,4 +1,4 @@
--- `order::circles::lowest_circle` meets its contract: none of the gates passed meets itself. Assumes nothing.
+-- What `order::circles::lowest_circle` keeps from turn to turn: none of the gates passed meets itself. Assumes nothing.
 use Prim.Native.Nat.{◌-◌}
 use mathlib.Core.Path.{◌≡◌}
 use lib.ListN.{length}

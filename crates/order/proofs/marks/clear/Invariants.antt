@@ -1,4 +1,4 @@
--- `order::marks::clear` meets its contract: what is passed is 0. Assumes nothing.
+-- What `order::marks::clear` keeps from turn to turn: what is passed is 0. Assumes nothing.
 use Prim.Native.Nat.{◌-◌, ◌≤◌}
 use lib.ListN.{length}
 use Rattle.below.proofs.Laws.Filled.{Filled}

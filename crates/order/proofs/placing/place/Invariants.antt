@@ -1,4 +1,4 @@
--- `order::placing::place` meets its contract: after each visit marks and places are those of the definition. Assumes nothing.
+-- What `order::placing::place` keeps from turn to turn: after each visit marks and places are those of the definition. Assumes nothing.
 use Prim.Native.Nat.{◌-◌}
 use Rattle.order.proofs.Laws.Going.{Going}
 use Rattle.order.proofs.placing.place.Given as goal

@@ -1,4 +1,4 @@
--- `order::test::in_order` meets its contract: the gates in front are marked. Assumes nothing.
+-- What `order::test::in_order` keeps from turn to turn: the gates in front are marked. Assumes nothing.
 use Prim.Native.Nat.{◌*◌, ◌-◌, ◌≤◌}
 use mathlib.Core.Path.{◌≡◌}
 use lib.ListN.{length}

@@ -34,7 +34,7 @@ overflow_add-many-2 c =
 
 pub put_packed-requires : goal.put_packed-requires
 put_packed-requires c =
-    record { w_bound = omega arith; many_value = bytes_of_numbers c.args.n c.fewer-w.result; many_in_bounds = omega arith }
+    record { w_bound = omega arith; many_is = bytes_of_numbers c.args.n c.fewer-w.result; many_in_bounds = omega arith }
 
 pub returns-then-at-out : goal.returns-then-at-out
 returns-then-at-out c =

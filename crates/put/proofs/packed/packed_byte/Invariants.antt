@@ -1,4 +1,4 @@
--- `put::packed::packed_byte` meets its contract: bit after bit is gathered. Assumes nothing.
+-- What `put::packed::packed_byte` keeps from turn to turn: bit after bit is gathered. Assumes nothing.
 use Prim.Native.Nat.{ℕ, ◌+◌, ◌*◌, ◌-◌}
 use mathlib.Core.Bool.{◌&&◌}
 use mathlib.Core.List.{List}

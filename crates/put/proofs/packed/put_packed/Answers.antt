@@ -15,7 +15,7 @@ loop-j-init c = let a = c.args in laid_start (byte_of a.numbers.now a.w a.n) a.m
 pub packed_byte-byte-requires : goal.packed_byte-byte-requires
 packed_byte-byte-requires c =
     let a = c.args in
-    let p = c.requires in record { w_nonzero = wide a.n a.w a.many c.loop-j.j p.many_value c.loop-j-test.true; w_bound = p.w_bound }
+    let p = c.requires in record { w_nonzero = wide a.n a.w a.many c.loop-j.j p.many_is c.loop-j-test.true; w_bound = p.w_bound }
 
 pub loop-j-preserved : goal.loop-j-preserved
 loop-j-preserved c =
@@ -30,4 +30,4 @@ returns c =
     let a = c.args in
     let l = c.loop-j in
     laid_all (byte_of a.numbers.now a.w a.n) a.many a.out.now a.at l.j l.out l.invariant c.loop-j-test.false
-    ∙ ap (λ (m : ℕ). sets a.out.now a.at (table (byte_of a.numbers.now a.w a.n) m)) c.requires.many_value
+    ∙ ap (λ (m : ℕ). sets a.out.now a.at (table (byte_of a.numbers.now a.w a.n) m)) c.requires.many_is

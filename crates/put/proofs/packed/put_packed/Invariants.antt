@@ -1,4 +1,4 @@
--- `put::packed::put_packed` meets its contract: byte after byte is laid. Assumes nothing.
+-- What `put::packed::put_packed` keeps from turn to turn: byte after byte is laid. Assumes nothing.
 use Prim.Native.Nat.{ℕ, ◌*◌, ◌-◌}
 use mathlib.Core.List.{List}
 use lib.ListN.{get_or}

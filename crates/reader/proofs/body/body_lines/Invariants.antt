@@ -1,4 +1,4 @@
--- `reader::body::body_lines` meets its contract: what is left of the lines equals the whole. Assumes nothing.
+-- What `reader::body::body_lines` keeps from turn to turn: what is left of the lines equals the whole. Assumes nothing.
 use Prim.Native.Nat.{◌-◌}
 use Rattle.lines.specs.Inner.Headed.{said}
 use Rattle.reader.proofs.Laws.BodyLoop.{Looping}

@@ -1,4 +1,4 @@
--- `reader::column::column` meets its contract: number by number. Assumes nothing.
+-- What `reader::column::column` keeps from turn to turn: number by number. Assumes nothing.
 use Prim.Native.Nat.{◌-◌}
 use Rattle.reader.proofs.Laws.ColumnLoop.{Filling, column_at}
 use Rattle.reader.proofs.column.column.Given as goal

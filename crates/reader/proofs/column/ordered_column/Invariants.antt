@@ -1,4 +1,4 @@
--- `reader::column::ordered_column` meets its contract: number by number. Assumes nothing.
+-- What `reader::column::ordered_column` keeps from turn to turn: number by number. Assumes nothing.
 use Prim.Native.Nat.{◌-◌}
 use lib.ListN.{length}
 use Rattle.reader.proofs.Laws.ColumnLoop.{Filling, ordered_at}

@@ -1,4 +1,4 @@
--- `reader::column::put_places` meets its contract: gate by gate. Assumes nothing.
+-- What `reader::column::put_places` keeps from turn to turn: gate by gate. Assumes nothing.
 use Prim.Native.Nat.{◌-◌}
 use lib.ListN.{length}
 use Rattle.reader.proofs.Laws.PlacesLoop.{Standing}

@@ -1,4 +1,4 @@
--- `reader::definers::definers_of` meets its contract: gate by gate. Assumes nothing.
+-- What `reader::definers::definers_of` keeps from turn to turn: gate by gate. Assumes nothing.
 use Prim.Native.Nat.{◌-◌}
 use Rattle.reader.proofs.Laws.DefinersLoop.{Entered}
 use Rattle.reader.proofs.definers.definers_of.Given as goal

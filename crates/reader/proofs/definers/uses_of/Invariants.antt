@@ -1,4 +1,4 @@
--- `reader::definers::uses_of` meets its contract: operand by operand. Assumes nothing.
+-- What `reader::definers::uses_of` keeps from turn to turn: operand by operand. Assumes nothing.
 use Prim.Native.Nat.{◌*◌, ◌-◌}
 use Rattle.below.proofs.Laws.Filled.{Filled}
 use Rattle.reader.specs.Inner.Definers.{operand_at}

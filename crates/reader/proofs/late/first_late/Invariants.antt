@@ -1,4 +1,4 @@
--- `reader::late::first_late` meets its contract: line by line. Assumes nothing.
+-- What `reader::late::first_late` keeps from turn to turn: line by line. Assumes nothing.
 use Prim.Native.Nat.{ℕ, ◌+◌, ◌-◌, ◌≤◌}
 use mathlib.Core.List.{List}
 use Rattle.below.specs.Table.{table}

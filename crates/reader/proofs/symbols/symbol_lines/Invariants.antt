@@ -1,4 +1,4 @@
--- `reader::symbols::symbol_lines` meets its contract: what is left of the symbols equals the whole. Assumes nothing.
+-- What `reader::symbols::symbol_lines` keeps from turn to turn: what is left of the symbols equals the whole. Assumes nothing.
 use Prim.Native.Nat.{◌-◌}
 use lib.ListN.{length}
 use Rattle.lines.specs.Inner.Headed.{said}

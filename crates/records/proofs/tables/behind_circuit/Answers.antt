@@ -1,7 +1,5 @@
 -- `records::tables::behind_circuit` meets its contract: each test is one that `second_of` makes. Assumes nothing.
-use Prim.Native.Nat.{ℕ}
 use native.Mathlib.Omega.{arith}
-use mathlib.Core.List.{List}
 use mathlib.Core.Path.{sym, ap, ◌∙◌}
 use Rattle.records.specs.Record.{Split, head_length}
 use Rattle.records.specs.Shape.{shape_of}
@@ -20,15 +18,6 @@ found c =
     found_record c.args.certificate.now c.args.circuit c.in-Whole.kind
     c.in-Whole.start c.in-Whole.end c.in-Whole.ensures
 
-abbrev kind : goal.In-Whole → ℕ
-kind c = c.in-Whole.kind
-
-abbrev end : goal.In-Whole → ℕ
-end c = c.in-Whole.end
-
-abbrev contents : goal.In-Whole → List ℕ
-contents c = part c.in-Whole.start c.in-Whole.end c.args.certificate.now
-
 pub returns-in_default : goal.returns-in_default
 unfolding shape_of second_of
 returns-in_default c =
@@ -40,8 +29,8 @@ pub behind_region-requires : goal.behind_region-requires
 behind_region-requires c =
     let f = found (goal.at.behind_region-requires c).In-Whole in record {
       within = c.requires;
-      within_2 = record { ordered = f.ordered; inside = f.within };
-      region_value = f.begins;
+      region_within = record { ordered = f.ordered; inside = f.within };
+      region_start = f.begins;
     }
 
 pub returns-then-kind-eq-REGION : goal.returns-then-kind-eq-REGION
@@ -52,8 +41,8 @@ returns-then-kind-eq-REGION c =
     ∙ sym (ap (λ (s : Split). shape_of (second_of accepted_kinds (part head_length a.circuit a.certificate.now) s))
     (found (goal.at.returns-then-kind-eq-REGION c).In-Whole).splits
     ∙ ap shape_of (second_region accepted_kinds (part head_length a.circuit a.certificate.now) a.certificate.now
-    (kind (goal.at.returns-then-kind-eq-REGION c).In-Whole) (end (goal.at.returns-then-kind-eq-REGION c).In-Whole)
-    (contents (goal.at.returns-then-kind-eq-REGION c).In-Whole)
+    c.in-Whole.kind c.in-Whole.end
+    (part c.in-Whole.start c.in-Whole.end a.certificate.now)
     c.if-kind-eq-REGION.true))
 
 pub returns-then-kind-ne-ATTACKS : goal.returns-then-kind-ne-ATTACKS
@@ -63,8 +52,8 @@ returns-then-kind-ne-ATTACKS c =
     sym (ap (λ (s : Split). shape_of (second_of accepted_kinds (part head_length a.circuit a.certificate.now) s))
     (found (goal.at.returns-then-kind-ne-ATTACKS c).In-Whole).splits
     ∙ ap shape_of (second-other accepted_kinds (part head_length a.circuit a.certificate.now) a.certificate.now
-    (kind (goal.at.returns-then-kind-ne-ATTACKS c).In-Whole) (end (goal.at.returns-then-kind-ne-ATTACKS c).In-Whole)
-    (contents (goal.at.returns-then-kind-ne-ATTACKS c).In-Whole)
+    c.in-Whole.kind c.in-Whole.end
+    (part c.in-Whole.start c.in-Whole.end a.certificate.now)
     c.if-kind-eq-REGION.false c.if-kind-ne-ATTACKS.true))
 
 pub returns-then-end-certificate : goal.returns-then-end-certificate
@@ -74,8 +63,8 @@ returns-then-end-certificate c =
     sym (ap (λ (s : Split). shape_of (second_of accepted_kinds (part head_length a.circuit a.certificate.now) s))
     (found (goal.at.returns-then-end-certificate c).In-Whole).splits
     ∙ ap shape_of (second_more accepted_kinds (part head_length a.circuit a.certificate.now) a.certificate.now
-    (kind (goal.at.returns-then-end-certificate c).In-Whole) (end (goal.at.returns-then-end-certificate c).In-Whole)
-    (contents (goal.at.returns-then-end-certificate c).In-Whole)
+    c.in-Whole.kind c.in-Whole.end
+    (part c.in-Whole.start c.in-Whole.end a.certificate.now)
     c.if-kind-eq-REGION.false (found (goal.at.returns-then-end-certificate c).In-Whole).within c.if-end-certificate.true))
 
 pub returns : goal.returns
@@ -83,17 +72,17 @@ unfolding shape_of second_of
 returns c =
     let a = c.args in
     let p = c.requires in
-    shape_attacks (part head_length a.circuit a.certificate.now) (contents (goal.at.returns c).In-Whole) a.circuit c.in-Whole.start
-    (end (goal.at.returns c).In-Whole)
+    shape_attacks (part head_length a.circuit a.certificate.now) (part c.in-Whole.start c.in-Whole.end a.certificate.now) a.circuit c.in-Whole.start
+    c.in-Whole.end
     (omega (arith, length_part head_length a.circuit a.certificate.now p.inside, p))
     (found (goal.at.returns c).In-Whole).begins
     (omega (
       arith,
-      length_part c.in-Whole.start (end (goal.at.returns c).In-Whole) a.certificate.now (found (goal.at.returns c).In-Whole).within,
+      length_part c.in-Whole.start c.in-Whole.end a.certificate.now (found (goal.at.returns c).In-Whole).within,
       found
           (goal.at.returns c).In-Whole,
     ))
     ∙ sym (ap (λ (s : Split). shape_of (second_of accepted_kinds (part head_length a.circuit a.certificate.now) s)) (found (goal.at.returns c).In-Whole).splits
-    ∙ ap shape_of (second_is accepted_kinds (part head_length a.circuit a.certificate.now) a.certificate.now (kind (goal.at.returns c).In-Whole)
-    (end (goal.at.returns c).In-Whole) (contents (goal.at.returns c).In-Whole)
+    ∙ ap shape_of (second_is accepted_kinds (part head_length a.circuit a.certificate.now) a.certificate.now c.in-Whole.kind
+    c.in-Whole.end (part c.in-Whole.start c.in-Whole.end a.certificate.now)
     c.if-kind-eq-REGION.false c.if-kind-ne-ATTACKS.false c.if-end-certificate.false))

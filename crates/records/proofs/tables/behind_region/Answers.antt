@@ -21,15 +21,6 @@ found c =
     found_record c.args.certificate.now c.args.behind c.in-Whole.kind
     c.in-Whole.start c.in-Whole.end c.in-Whole.ensures
 
-abbrev kind : goal.In-Whole → ℕ
-kind c = c.in-Whole.kind
-
-abbrev end : goal.In-Whole → ℕ
-end c = c.in-Whole.end
-
-abbrev contents : goal.In-Whole → List ℕ
-contents c = part c.in-Whole.start c.in-Whole.end c.args.certificate.now
-
 -- what the certificate's parts come to by the record there
 abbrev by : (certificate : List ℕ) (circuit region behind : ℕ) → Split → Shape
 by certificate circuit region behind s = shape_of (third_of accepted_kinds (part head_length circuit certificate) (part region behind certificate) s)
@@ -48,8 +39,8 @@ returns-then-not-is_accepted c =
     let l = a.certificate.now in
     sym (ap (by l a.circuit a.region a.behind) (found (goal.at.returns-then-not-is_accepted c).In-Whole).splits
     ∙ ap shape_of (third-other accepted_kinds (part head_length a.circuit l) (part a.region a.behind l) l
-    (kind (goal.at.returns-then-not-is_accepted c).In-Whole) (end (goal.at.returns-then-not-is_accepted c).In-Whole)
-    (contents (goal.at.returns-then-not-is_accepted c).In-Whole)
+    c.in-Whole.kind c.in-Whole.end
+    (part c.in-Whole.start c.in-Whole.end a.certificate.now)
     (sym c.is_accepted.ensures ∙ c.if-not-is_accepted.true)))
 
 pub returns-then-certificate-end : goal.returns-then-certificate-end
@@ -59,8 +50,8 @@ returns-then-certificate-end c =
     let l = a.certificate.now in
     sym (ap (by l a.circuit a.region a.behind) (found (goal.at.returns-then-certificate-end c).In-Whole).splits
     ∙ ap shape_of (third_more accepted_kinds (part head_length a.circuit l) (part a.region a.behind l) l
-    (kind (goal.at.returns-then-certificate-end c).In-Whole) (end (goal.at.returns-then-certificate-end c).In-Whole)
-    (contents (goal.at.returns-then-certificate-end c).In-Whole)
+    c.in-Whole.kind c.in-Whole.end
+    (part c.in-Whole.start c.in-Whole.end a.certificate.now)
     (found (goal.at.returns-then-certificate-end c).In-Whole).within (λ e. c.if-certificate-end.true (sym e))))
 
 pub returns : goal.returns
@@ -69,18 +60,18 @@ returns c =
     let a = c.args in
     let p = c.requires in
     let l = a.certificate.now in
-    shape_replies (part head_length a.circuit l) (contents (goal.at.returns c).In-Whole) a.circuit c.in-Whole.start (end (goal.at.returns c).In-Whole)
+    shape_replies (part head_length a.circuit l) (part c.in-Whole.start c.in-Whole.end a.certificate.now) a.circuit c.in-Whole.start c.in-Whole.end
     (omega (arith, length_part head_length a.circuit l p.within.inside, p.within))
-    (part a.region a.behind l) (kind (goal.at.returns c).In-Whole) a.region a.behind p.region_value
-    (omega (arith, length_part a.region a.behind l p.within_2.inside, p.within_2))
+    (part a.region a.behind l) c.in-Whole.kind a.region a.behind p.region_start
+    (omega (arith, length_part a.region a.behind l p.region_within.inside, p.region_within))
     (found (goal.at.returns c).In-Whole).begins
     (omega (
       arith,
-      length_part c.in-Whole.start (end (goal.at.returns c).In-Whole) l (found (goal.at.returns c).In-Whole).within,
+      length_part c.in-Whole.start c.in-Whole.end l (found (goal.at.returns c).In-Whole).within,
       found
           (goal.at.returns c).In-Whole,
     ))
     ∙ sym (ap (by l a.circuit a.region a.behind) (found (goal.at.returns c).In-Whole).splits
-    ∙ ap shape_of (third-is accepted_kinds (part head_length a.circuit l) (part a.region a.behind l) l (kind (goal.at.returns c).In-Whole)
-    (end (goal.at.returns c).In-Whole) (contents (goal.at.returns c).In-Whole)
+    ∙ ap shape_of (third-is accepted_kinds (part head_length a.circuit l) (part a.region a.behind l) l c.in-Whole.kind
+    c.in-Whole.end (part c.in-Whole.start c.in-Whole.end a.certificate.now)
     (sym c.is_accepted.ensures ∙ c.if-not-is_accepted.false) (sym c.if-certificate-end.false)))

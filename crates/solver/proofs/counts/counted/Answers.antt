@@ -13,6 +13,6 @@ returns c = let v = c.args.c in
       value = n.counts_are v.largest v.next v.output gates v.left v.right
           ∙ sym (lines-not-counted (take v.gates v.lines) (lent v.largest (take v.inputs v.input) v.controllable
           (take v.latches v.latch) v.next v.output gates v.left v.right));
-      latches_le_latches = n.latches_le_latches;
-      uncontrollable_le_uncontrollable = n.uncontrollable_le_uncontrollable;
+      few_latches = n.few_latches;
+      few_readings = n.few_readings;
     }

@@ -17,8 +17,8 @@ returns-then-too_many c = let a = c.args in record {
   counts_are = λ largest next output gate left right. no_counts a.inputs a.latches c.fewer-i.result c.uncontrollable_count-u.result
       c.controllable_count-k.result a.input.now a.controllable.now a.latch.now c.fewer-i.ensures c.uncontrollable_count-u.ensures
       c.controllable_count-k.ensures largest next output gate left right (sym c.too_many.ensures ∙ c.if-too_many.true);
-  latches_le_latches = omega arith;
-  uncontrollable_le_uncontrollable = omega arith;
+  few_latches = omega arith;
+  few_readings = omega arith;
 }
 
 pub returns : goal.returns
@@ -28,6 +28,6 @@ returns c = let a = c.args in
           c.controllable_count-k.result a.input.now a.controllable.now a.latch.now c.fewer-i.ensures c.uncontrollable_count-u.ensures
           c.controllable_count-k.ensures largest next output gate left right c.fewer-l.result c.latches_of.result few c.fewer-l.ensures
           c.latches_of.ensures;
-      latches_le_latches = omega (arith, c.latches_of.ensures);
-      uncontrollable_le_uncontrollable = (few_are c.uncontrollable_count-u.result c.controllable_count-k.result few).0;
+      few_latches = omega (arith, c.latches_of.ensures);
+      few_readings = (few_are c.uncontrollable_count-u.result c.controllable_count-k.result few).0;
     }

@@ -26,7 +26,7 @@ returns-then-found-last c = let h = c.hold-at in
     let n = c.latches-latches in
     let turn = turn_of n.result n.ensures c.fewer-last.ensures l.invariant.0 t.true h.ensures.holds c.keeping_lane-found.ensures.lane_value in
     let here = c.if-found-last.true in
-    (lane-found turn here, λ _. lane_lead turn here c.keeping_lane-found.result.lead (c.keeping_lane-found.ensures.lead_value here), h.ensures.all_held_2)
+    (lane-found turn here, λ _. lane_lead turn here c.keeping_lane-found.result.lead (c.keeping_lane-found.ensures.lead_value here), h.ensures.still_held)
 
 pub loop-m-smaller : goal.loop-m-smaller
 loop-m-smaller c = let h = c.hold-at in
@@ -42,7 +42,7 @@ loop-m-preserved c = let h = c.hold-at in
     let l = c.loop-m in
     let n = c.latches-latches in
     let turn = turn_of n.result n.ensures c.fewer-last.ensures l.invariant.0 t.true h.ensures.holds c.keeping_lane-found.ensures.lane_value in
-    (lane-later turn c.if-found-last.false, h.ensures.all_held_2, search rules)
+    (lane-later turn c.if-found-last.false, h.ensures.still_held, search rules)
 
 pub returns : goal.returns
 returns c = let l = c.loop-m in (searched_end _ _ _ l.m l.invariant.0 (omega arith), λ h. absurd (omega arith), l.invariant.1)

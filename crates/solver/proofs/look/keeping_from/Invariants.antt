@@ -1,4 +1,4 @@
--- `solver::look::keeping_from` meets its contract: no move passed keeps; a block is searched lane by lane.
+-- What `solver::look::keeping_from` keeps from turn to turn: no move passed keeps; a block is searched lane by lane.
 use Prim.Native.Nat.{◌-◌}
 use mathlib.Core.Path.{◌≡◌}
 use lib.ListN.{length}

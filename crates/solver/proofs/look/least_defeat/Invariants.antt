@@ -1,4 +1,4 @@
--- `solver::look::least_defeat` meets its contract: no reading passed defeats, and what was found at each place is kept.
+-- What `solver::look::least_defeat` keeps from turn to turn: no reading passed defeats, and what was found at each place is kept.
 use Prim.Native.Nat.{◌-◌}
 use mathlib.Core.Path.{◌≡◌}
 use lib.ListN.{length}

@@ -1,4 +1,4 @@
--- `solver::planes::put_planes` meets its contract: the words passed are those of the block, the others as before.
+-- What `solver::planes::put_planes` keeps from turn to turn: the words passed are those of the block, the others as before.
 use Prim.Native.Nat.{◌+◌, ◌-◌, ◌≤◌}
 use mathlib.Core.Bool.{cond}
 use lib.Dec.{ltb}

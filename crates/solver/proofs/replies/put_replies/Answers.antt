@@ -33,12 +33,12 @@ loop-i-init c = (
   c.requires.kept,
   search rules,
   search rules,
-  ap length c.requires.replies_value ∙ length_table {A = ℕ} (λ i. 0) (2 ^ base.latches * 2 ^ base.uncontrollable),
+  ap length c.requires.replies_blank ∙ length_table {A = ℕ} (λ i. 0) (2 ^ base.latches * 2 ^ base.uncontrollable),
 )
 
 pub reply_at-reply-requires : goal.reply_at-reply-requires
 reply_at-reply-requires c = let l = c.loop-i in record {
-  by_index = c.requires.by_index;
+  ranks_bound = c.requires.ranks_bound;
   place_bound = omega (arith, c.loop-i-test.true, l.invariant.2);
   kept = l.invariant.3;
 }
@@ -75,7 +75,7 @@ loop-i-preserved c = let l = c.loop-i in
 pub returns : goal.returns
 returns c = let l = c.loop-i in
     let a = c.args in
-    filled_zeros _ _ (2 ^ base.latches * 2 ^ base.uncontrollable) (places a.net.now) l.i l.replies l.invariant.0 c.requires.replies_value (omega (
+    filled_zeros _ _ (2 ^ base.latches * 2 ^ base.uncontrollable) (places a.net.now) l.i l.replies l.invariant.0 c.requires.replies_blank (omega (
       arith,
       l.invariant.1,
       l.invariant.2,

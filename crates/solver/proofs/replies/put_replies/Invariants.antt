@@ -1,4 +1,4 @@
--- `solver::replies::put_replies` meets its contract: what is passed is as the search at each place says.
+-- What `solver::replies::put_replies` keeps from turn to turn: what is passed is as the search at each place says.
 use Prim.Native.Nat.{◌*◌, ◌-◌, ◌/◌, ◌%◌, ◌^◌, ◌≤◌}
 use mathlib.Core.Path.{◌≡◌}
 use lib.ListN.{length}

@@ -31,4 +31,4 @@ returns c = let a = c.args in
     let rank = x.ensures ∙ ap (λ (n : ℕ). ranks_in a.ranks.now (a.place / n)) c.readings.ensures in
     let least = f.ensures.0 ∙ least-place a.net.now a.place c.requires.place_bound (not_ranked (ranks_in a.ranks.now) a.k) in
     let at = reply-found (net_game a.net.now) a.ranks.now (a.place / u) x.result rank a.k (a.place % u) in
-    (at f.result n.result c.found.result c.requires.by_index c.if-x-gt0.false least n.ensures c.found.ensures, f.ensures.1)
+    (at f.result n.result c.found.result c.requires.ranks_bound c.if-x-gt0.false least n.ensures c.found.ensures, f.ensures.1)

@@ -1,4 +1,4 @@
--- `solver::rounds::changes` meets its contract: none of the states passed has another rank.
+-- What `solver::rounds::changes` keeps from turn to turn: none of the states passed has another rank.
 use Prim.Native.Nat.{◌-◌}
 use mathlib.Core.Bool.{not}
 use lib.Dec.{eqb}

@@ -1,4 +1,4 @@
--- `solver::rounds::round` meets its contract: what is passed is as the round says, the rest as before, and what is kept goes on.
+-- What `solver::rounds::round` keeps from turn to turn: what is passed is as the round says, the rest as before, and what is kept goes on.
 use Prim.Native.Nat.{◌-◌, ◌^◌, ◌≤◌}
 use mathlib.Core.Path.{◌≡◌}
 use lib.ListN.{length, get_or}

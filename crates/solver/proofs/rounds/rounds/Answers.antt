@@ -29,7 +29,7 @@ few : (s : goal.Start) → 2 ^ net_latches s.args.net.now ≤ 2 ^ base.latches
 few s = few_states s.args.net.now s.requires.kept.small
 
 attacks_long : (s : goal.Start) → length s.args.attacks.now ≡ 2 ^ base.latches
-attacks_long s = ap length s.requires.attacks_value ∙ length_table {A = ℕ} (λ i. 0) (2 ^ base.latches)
+attacks_long s = ap length s.requires.attacks_blank ∙ length_table {A = ℕ} (λ i. 0) (2 ^ base.latches)
 
 pub states-n-requires : goal.states-n-requires
 states-n-requires c = c.requires.kept.small
@@ -37,7 +37,7 @@ states-n-requires c = c.requires.kept.small
 pub loop-k-init : goal.loop-k-init
 loop-k-init c = (
   rounds_start _ _ _ c.zeros-ranks.ensures,
-  attacks_start _ _ _ c.zeros-ranks.ensures c.requires.attacks_value,
+  attacks_start _ _ _ c.zeros-ranks.ensures c.requires.attacks_blank,
   rw c.zeros-ranks.ensures c.requires.kept,
   search rules,
   search rules,
@@ -69,7 +69,7 @@ pub changes-changed-requires : goal.changes-changed-requires
 changes-changed-requires c = let l = c.loop-k in
     let r = c.round-after in record {
       states_in_bounds = omega (arith, few (goal.at.changes-changed-requires c).Start, l.invariant.5, ranked_long _ _ _ l.ranks l.invariant.0);
-      states_in_bounds_2 = omega (arith, few (goal.at.changes-changed-requires c).Start, l.invariant.5, round_long _ _ _ _ r.result r.ensures.0);
+      states_in_after = omega (arith, few (goal.at.changes-changed-requires c).Start, l.invariant.5, round_long _ _ _ _ r.result r.ensures.0);
     }
 
 pub shape_of-attacks-then-not-changed : goal.shape_of-attacks-then-not-changed

@@ -1,4 +1,4 @@
--- `solver::rounds::rounds` meets its contract: the list is that after k rounds; where a round changes nothing none after it does, and as many
+-- What `solver::rounds::rounds` keeps from turn to turn: the list is that after k rounds; where a round changes nothing none after it does, and as many
 -- rounds as there are states suffice.
 use Prim.Native.Nat.{◌-◌, ◌^◌}
 use mathlib.Core.Path.{◌≡◌}

@@ -16,7 +16,7 @@ slice_bounds-rounds-end c =
     c.no_attacks-attacks.ensures ∙ length_table {A = ℕ} (λ i. 0) (2 ^ base.latches) in search rules
 
 pub rounds-ranks-requires : goal.rounds-ranks-requires
-rounds-ranks-requires c = record { attacks_value = c.no_attacks-attacks.ensures; kept = c.requires }
+rounds-ranks-requires c = record { attacks_blank = c.no_attacks-attacks.ensures; kept = c.requires }
 
 pub slice_bounds-put_replies-end : goal.slice_bounds-put_replies-end
 slice_bounds-put_replies-end c = let r = c.rounds-ranks in
@@ -30,7 +30,7 @@ slice_bounds-put_replies-end-2 c =
     search rules
 
 pub put_replies-requires : goal.put_replies-requires
-put_replies-requires c = let r = c.rounds-ranks in record { by_index = r.ensures.2; replies_value = c.no_replies-replies.ensures; kept = r.ensures.3 }
+put_replies-requires c = let r = c.rounds-ranks in record { ranks_bound = r.ensures.2; replies_blank = c.no_replies-replies.ensures; kept = r.ensures.3 }
 
 pub returns : goal.returns
 unfolding solution_of

@@ -25,7 +25,7 @@ overflow_mul-n c = omega (arith, few (goal.at.overflow_mul-n c).Start)
 pub cells_length-cells-requires : goal.cells_length-cells-requires
 cells_length-cells-requires c = record {
   n_bound = few (goal.at.cells_length-cells-requires c).Start;
-  controls_le_controllable = c.requires.controls_le_controllable;
+  few_controls = c.requires.few_controls;
 }
 
 pub overflow_add-file-3 : goal.overflow_add-file-3
@@ -106,7 +106,7 @@ put_cells-behind-requires c =
         third_at w.After-put_head-2 (region_at_lem w.After-put_region-regioned (second_at w.After-put_head)),
       );
       n_in_bounds = omega (arith, c.requires.replies_len, few w.Start);
-      controls_le_controllable = c.requires.controls_le_controllable;
+      few_controls = c.requires.few_controls;
     }
 
 pub returns : goal.returns

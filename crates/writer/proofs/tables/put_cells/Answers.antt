@@ -22,7 +22,7 @@ pub returns-then-kind-eq-PACKED : goal.returns-then-kind-eq-PACKED
 returns-then-kind-eq-PACKED c =
     let a = c.args in
     let w = c.pack in
-    wrote_packed a.kind a.n a.controls a.replies.now a.at w.result c.if-kind-eq-PACKED.true c.requires.controls_le_controllable
+    wrote_packed a.kind a.n a.controls a.replies.now a.at w.result c.if-kind-eq-PACKED.true c.requires.few_controls
     w.ensures.value w.ensures.out_after
 
 pub returns-else-kind-eq-PACKED : goal.returns-else-kind-eq-PACKED
