@@ -1,41 +1,32 @@
 // Reads the files that its arguments name, and prints a line for each (01, "The numbers"): `NAME: taken` or `NAME: refused N PLACE`.
 #![tactic(auto)]
 
-use circuit::Read;
+use desk::Told;
 
 fn main(rt: HostRuntime) {
     for i in 1..desk::argument_count(&rt) {
-        answer_argument(&rt, i);
+        // Trouble has been told, and the next file is taken.
+        let _ = answer_argument(&rt, i);
     }
 }
 
-fn answer_argument(rt: &HostRuntime, i: usize) {
+fn answer_argument(rt: &HostRuntime, i: usize) -> Result<(), Told> {
     let mut name = [0; desk::NAME];
-    let filled = desk::argument(rt, i, &mut name);
-    if !filled.trouble {
-        let n = filled.bytes;
-        answer_file(rt, &name[..n]);
-    }
+    let n = desk::argument(rt, i, &mut name)?;
+    answer_file(rt, &name[..n])
 }
 
-fn answer_file(rt: &HostRuntime, name: &[u8]) {
+fn answer_file(rt: &HostRuntime, name: &[u8]) -> Result<(), Told> {
     let mut space = desk::blank();
-    let filled = desk::read_file(rt, name, &mut space);
-    if !filled.trouble {
-        let n = filled.bytes;
-        let r = file::read(&space[..n]);
-        let answer = r.answer;
-        let _ = rt.write_all(name);
-        print_answer(rt, answer);
-    }
-}
-
-fn print_answer(rt: &HostRuntime, answer: Read) {
+    let n = desk::read_file(rt, name, &mut space)?;
+    let answer = file::read(&space[..n]);
+    let _ = rt.write_all(name);
     let _ = rt.write_all(b": ");
     match answer {
-        Read::Taken => {
+        Ok(_) => {
             let _ = rt.write_all(b"taken\n");
         }
-        Read::Refused(refusal) => desk::print_refusal(rt, refusal),
+        Err(refusal) => desk::print_refusal(rt, refusal),
     }
+    Ok(())
 }

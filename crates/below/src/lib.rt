@@ -1,12 +1,27 @@
 // What is said of the numbers below a bound: the least one that passes a test, any, every, and a table of them.
-// Definitions (specs/) and their laws (proofs/Laws/).
+// Definitions (specs/) and their laws (proofs/Laws/). And what code does with lists of any items.
 #![tactic(auto)]
 
-ghost use Rattle.std.specs.Prelude.{min, ◌≡◌};
+ghost use Rattle.std.specs.Prelude.{◌≡◌, get_or, take};
+ghost use Rattle.below.specs.Table.{table};
 
-// The smaller of two numbers.
-pub fn fewer(a: usize, b: usize) -> usize
-    ensures { result ≡ min a b }
+// The item at a place; one that isn't there counts as another.
+pub fn get_or<T: Copy>(items: &[T], at: usize, other: T) -> T
+    ensures { result ≡ get_or items.now at other }
 {
-    if a < b { a } else { b }
+    items.get(at).copied().unwrap_or(other)
+}
+
+// The first n items, or all if there are fewer.
+pub fn front<T>(items: &[T], n: usize) -> &[T]
+    ensures { result.now ≡ take n items.now }
+{
+    &items[..n.min(items.len())]
+}
+
+// As many of the same item as the array has room for.
+pub fn filled<T: Copy, const N: usize>(item: T) -> [T; N]
+    ensures { result ≡ table (λ i. item) N }
+{
+    [item; N]
 }

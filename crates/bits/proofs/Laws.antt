@@ -15,3 +15,4 @@ pub mod Shift
 pub mod AllBelow
 pub mod Sum
 pub mod Halves
+pub mod Mask

@@ -1,3 +1,4 @@
+pub mod Meant
 pub mod Counts
 pub mod Part
 pub mod Stored

@@ -19,13 +19,15 @@ ghost use Rattle.capi.specs.Plain.{read_answer, step_answer, certify_answer, che
 ghost use Rattle.capi.specs.Stored.{stored_of};
 ghost use Rattle.capi.specs.Stepped.{file_stepped};
 
-use circuit::Read;
-use records::RecordAt;
+use circuit::counts::Counts;
+use records::passed::{Starts, packed_reply, reply};
+use records::record::{Record, record_at};
+use records::{Kind, ReplyKind};
 use step::{Control, Reading};
 
 // A reading of a file: its refusal, or L, U and C.
 #[repr(C)]
-#[derive(Clone, Copy)]
+#[derive(Clone, Copy, Default)]
 pub struct ReadAnswer {
     pub number: u8,
     pub place: usize,
@@ -36,7 +38,7 @@ pub struct ReadAnswer {
 
 // A step: the file's refusal, or error and next state.
 #[repr(C)]
-#[derive(Clone, Copy)]
+#[derive(Clone, Copy, Default)]
 pub struct StepAnswer {
     pub number: u8,
     pub place: usize,
@@ -46,7 +48,7 @@ pub struct StepAnswer {
 
 // A certificate written: why nothing was, or the verdict and the count of bytes.
 #[repr(C)]
-#[derive(Clone, Copy)]
+#[derive(Clone, Copy, Default)]
 pub struct CertifyAnswer {
     pub number: u8,
     pub place: usize,
@@ -57,7 +59,7 @@ pub struct CertifyAnswer {
 // A check: its refusal, or the kind of the table (3 of replies, 5 of packed replies, 4 of attacks), where region and table start, L, U and C.
 // Attacks have no region and tell no C.
 #[repr(C)]
-#[derive(Clone, Copy)]
+#[derive(Clone, Copy, Default)]
 pub struct CheckAnswer {
     pub number: u8,
     pub place: usize,
@@ -71,7 +73,7 @@ pub struct CheckAnswer {
 
 // A print: why nothing was written, or the count of bytes.
 #[repr(C)]
-#[derive(Clone, Copy)]
+#[derive(Clone, Copy, Default)]
 pub struct PrintAnswer {
     pub number: u8,
     pub place: usize,
@@ -80,7 +82,7 @@ pub struct PrintAnswer {
 
 // A part of lent bytes.
 #[repr(C)]
-#[derive(Clone, Copy)]
+#[derive(Clone, Copy, Default)]
 pub struct Part {
     pub start: usize,
     pub bytes: usize,
@@ -90,29 +92,16 @@ pub struct Part {
 pub fn krastopi_read(file: &[u8]) -> ReadAnswer
     ensures { result ≡ read_answer (circuit_in file.now) }
 {
-    let read = file::read(file);
-    let answer = read.answer;
-    match answer {
-        Read::Refused(refusal) => plain::read_refused(refusal),
-        Read::Taken => plain::counts(read.circuit),
-    }
+    file::read(file).into()
 }
 
 // A step of a file's circuit. Bits of state, reading and control above L, U and C aren't read.
 pub fn krastopi_step(file: &[u8], state: u16, reading: u8, control: u8) -> StepAnswer
     ensures { result ≡ step_answer (file_stepped file.now state reading control) }
 {
-    let read = file::read(file);
-    let answer = read.answer;
-    match answer {
-        Read::Refused(refusal) => plain::step_refused(refusal),
-        Read::Taken => plain::stepped(step::step(
-            read.circuit,
-            state,
-            Reading(reading),
-            Control(control),
-        )),
-    }
+    file::read(file)
+        .map(|c| step::step(c, state, Reading(reading), Control(control)))
+        .into()
 }
 
 // Writes the certificate of a file at the front of a buffer, a byte for each reply. A refusal writes nothing.
@@ -121,7 +110,7 @@ pub fn krastopi_certify(file: &[u8], out: &mut [u8]) -> CertifyAnswer
     ensures out_after { out.new ≡ buffer_after (certificate_for reply_kind file.now (circuit_in file.now)
         (length out.old)) out.old }
 {
-    plain::certified(writer::certify(file, out))
+    writer::certify(ReplyKind::Bytes, file, out).into()
 }
 
 // The same with packed replies.
@@ -130,14 +119,14 @@ pub fn krastopi_certify_packed(file: &[u8], out: &mut [u8]) -> CertifyAnswer
     ensures out_after { out.new ≡ buffer_after (certificate_for packed_kind file.now (circuit_in file.now)
         (length out.old)) out.old }
 {
-    plain::certified(writer::certify_packed(file, out))
+    writer::certify(ReplyKind::Packed, file, out).into()
 }
 
 // Whether a certificate passes for a file.
 pub fn krastopi_check<'a>(file: &'a [u8], certificate: &'a [u8]) -> CheckAnswer
     ensures { result ≡ check_answer (answer_of file.now certificate.now) }
 {
-    plain::checked(checker::check(file, certificate))
+    checker::check(file, certificate).into()
 }
 
 // Prints the circuit of a file at the front of a buffer. A refusal writes nothing.
@@ -145,23 +134,22 @@ pub fn krastopi_print(file: &[u8], out: &mut [u8]) -> PrintAnswer
     ensures value { result ≡ print_answer (count_of (file_printed file.now (length out.old))) }
     ensures out_after { out.new ≡ buffer_after (file_printed file.now (length out.old)) out.old }
 {
-    plain::printed(printer::print(file, out))
+    printer::print(file, out).into()
 }
 
 // The circuit record of a certificate; nothing where the first record is cut short or of another kind.
 pub fn krastopi_circuit_record(certificate: &[u8]) -> Part
     ensures { result ≡ circuit_part (split certificate.now) }
 {
-    let RecordAt::Whole { kind, start, end } = records::record::record_at(certificate, 0) else {
-        return plain::nothing();
-    };
-    if kind != records::CIRCUIT {
-        return plain::nothing();
-    }
-    let contents = end - start;
-    Part {
-        start,
-        bytes: contents,
+    match record_at(certificate, 0) {
+        Some(Record { kind, contents }) if kind == Kind::Circuit.number() => {
+            let length = contents.end - contents.start;
+            Part {
+                start: contents.start,
+                bytes: length,
+            }
+        }
+        _ => Part::default(),
     }
 }
 
@@ -174,31 +162,33 @@ pub fn krastopi_region_bit(certificate: &[u8], passed: CheckAnswer, state: usize
 }
 
 // The reply to a reading at a state, by the kind of the table: the stored one inside the stored region, 0 outside.
+#[tactic(auto, unfolding(crate::specs::Stored::stored_of, records::specs::Passed::reply_in))]
 pub fn krastopi_reply(certificate: &[u8], passed: CheckAnswer, state: usize, reading: usize) -> u8
     ensures { result ≡ reply_in (drop passed.region certificate.now) passed.latches
         (stored_of passed (drop passed.table certificate.now)) state reading }
 {
-    if passed.kind == records::PACKED {
-        return records::passed::packed_reply(
+    let starts = Starts {
+        region: passed.region,
+        replies: passed.table,
+    };
+    // C may give any number for a kind.
+    if passed.kind == Kind::Packed.number() {
+        let counts = Counts {
+            latches: passed.latches,
+            readings: passed.readings,
+            controls: passed.controls,
+        };
+        packed_reply(certificate, starts, counts, state, reading)
+    } else {
+        reply(
             certificate,
-            passed.region,
-            passed.table,
+            starts,
             passed.latches,
             passed.readings,
-            passed.controls,
             state,
             reading,
-        );
+        )
     }
-    records::passed::reply(
-        certificate,
-        passed.region,
-        passed.table,
-        passed.latches,
-        passed.readings,
-        state,
-        reading,
-    )
 }
 
 // The stored rank of a state.

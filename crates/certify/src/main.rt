@@ -3,73 +3,56 @@
 // the certificate's file stays as it was.
 #![tactic(auto)]
 
-use bits::bytes::same_bytes;
+use below::front;
+use desk::Told;
 use desk::save::save_argument;
+use records::ReplyKind;
 use writer::Certified;
 
 fn main(rt: HostRuntime) {
-    let words = desk::argument_count(&rt);
-    if words == 3 {
-        certify_argument(&rt, false);
-        return;
+    // Trouble has been told, and the exit status is 0 all the same.
+    let _ = certify(&rt);
+}
+
+fn certify(rt: &HostRuntime) -> Result<(), Told> {
+    let kind = kind_asked(rt)?;
+    let mut space = desk::blank();
+    let n = desk::read_argument(rt, 1, &mut space)?;
+    certify_file(rt, kind, &space[..n])
+}
+
+fn kind_asked(rt: &HostRuntime) -> Result<ReplyKind, Told> {
+    match desk::argument_count(rt) {
+        3 => Ok(ReplyKind::Bytes),
+        4 if is_packed(rt) => Ok(ReplyKind::Packed),
+        _ => Err(desk::tell(rt, b"usage", b"certify CIRCUIT CERTIFICATE [packed]")),
     }
-    if words == 4 {
-        if is_packed(&rt) {
-            certify_argument(&rt, true);
-            return;
-        }
-    }
-    desk::tell(&rt, b"usage", b"certify CIRCUIT CERTIFICATE [packed]");
 }
 
 // Whether the third argument is the word `packed`.
 fn is_packed(rt: &HostRuntime) -> bool {
     let mut word = [0; desk::NAME];
-    let filled = desk::argument(rt, 3, &mut word);
-    if filled.trouble {
-        return false;
-    }
-    let n = filled.bytes;
-    same_bytes(&word[..n], b"packed")
+    desk::argument(rt, 3, &mut word).is_ok_and(|n| &word[..n] == b"packed".as_slice())
 }
 
-fn certify_argument(rt: &HostRuntime, packed: bool) {
-    let mut space = desk::blank();
-    let filled = desk::read_argument(rt, 1, &mut space);
-    if !filled.trouble {
-        let n = filled.bytes;
-        if packed {
-            certify_packed(rt, &space[..n]);
-        } else {
-            certify(rt, &space[..n]);
+fn certify_file(rt: &HostRuntime, kind: ReplyKind, file: &[u8]) -> Result<(), Told> {
+    let mut certificate = desk::blank_certificate();
+    match writer::certify(kind, file, &mut certificate) {
+        Ok(Certified::Realizable(n)) => keep(rt, front(&certificate, n), b"realizable "),
+        Ok(Certified::Unrealizable(n)) => keep(rt, front(&certificate, n), b"unrealizable "),
+        Err(refusal) => {
+            desk::print_refusal(rt, refusal);
+            Ok(())
         }
     }
 }
 
-fn certify(rt: &HostRuntime, file: &[u8]) {
-    let mut certificate = desk::blank_certificate();
-    let answer = writer::certify(file, &mut certificate);
-    keep_certified(rt, answer, &certificate);
-}
-
-fn certify_packed(rt: &HostRuntime, file: &[u8]) {
-    let mut certificate = desk::blank_certificate();
-    let answer = writer::certify_packed(file, &mut certificate);
-    keep_certified(rt, answer, &certificate);
-}
-
-fn keep_certified(rt: &HostRuntime, answer: Certified, certificate: &[u8]) {
-    match answer {
-        Certified::Realizable(n) => keep(rt, certificate, n, b"realizable "),
-        Certified::Unrealizable(n) => keep(rt, certificate, n, b"unrealizable "),
-        Certified::Refused(refusal) => desk::print_refusal(rt, refusal),
-    }
-}
-
-// The first n bytes are saved; then the verdict is printed.
-fn keep(rt: &HostRuntime, certificate: &[u8], n: usize, verdict: &[u8]) {
-    let end = desk::front(certificate, n);
-    if save_argument(rt, 2, &certificate[..end]) {
-        desk::print_end(rt, desk::print_number(rt, verdict, end as u64));
-    }
+// The certificate is saved; then the verdict is printed.
+fn keep(rt: &HostRuntime, certificate: &[u8], verdict: &[u8]) -> Result<(), Told> {
+    save_argument(rt, 2, certificate)?;
+    desk::print_end(
+        rt,
+        desk::print_number(rt, verdict, certificate.len() as u64),
+    );
+    Ok(())
 }

@@ -1,6 +1,5 @@
 pub mod Sized
+pub mod Holding
 pub mod FileNet
 pub mod TablesAs
 pub mod Faults
-pub mod Looked
-pub mod KeepsOut

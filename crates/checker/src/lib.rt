@@ -2,128 +2,94 @@
 #![tactic(auto)]
 
 mod attacks;
-mod counts;
 mod replies;
+mod sized;
 
-ghost use Rattle.std.specs.Prelude.{◌^◌, ◌<◌, ◌≡◌};
-ghost use Rattle.circuit.specs.Outcome.{taken};
-ghost use Rattle.circuit.specs.Stored.{meant};
-ghost use Rattle.file.specs.CircuitIn.{circuit_in};
+ghost use Rattle.std.specs.Prelude.{◌≡◌};
 ghost use Rattle.checker.specs.Answer.{checked_outcome, answer_of};
 ghost use Rattle.checker.specs.Inner.FileNet.{FileNet};
 
-use attacks::check_attacks;
-use bits::bytes::same_bytes;
-use circuit::{Circuit, Read, Refusal};
+use attacks::AttackTable;
+use circuit::counts::Counts;
+use circuit::{Fault, Refusal};
+use records::record::circuit_record;
 use records::tables::shape_of;
-use records::{HEAD, Shape};
-use replies::check_replies;
+use records::{ReplyKind, Shape};
+use replies::ReplyTables;
+use sized::SizedNet;
 
 // What a pass answers: where the tables start in the certificate, the kind of the reply record, and L, U and C, so that they can be read.
-#[derive(Clone, Copy)]
-pub enum Checked {
+#[derive(Clone, Copy, Debug, PartialEq, Eq)]
+pub enum Passed {
     Replies {
         region: usize,
         replies: usize,
-        kind: u16,
-        latches: usize,
-        readings: usize,
-        controls: usize,
+        kind: ReplyKind,
+        counts: Counts,
     },
     Attacks {
         table: usize,
         latches: usize,
         readings: usize,
     },
-    Refused(circuit::Refusal),
 }
-
-// The numbers of the checker's refusals.
-const BAD_SHAPE: u8 = 11;
-
-const OTHER_CIRCUIT: u8 = 12;
-
-const BAD_TABLE: u8 = 13;
-
-const BAD_RESET: u8 = 14;
-
-const BROKEN_STEP: u8 = 15;
 
 // Whether a certificate passes for a file: the file's refusals, then 11 to 15.
-pub fn check<'a>(file: &'a [u8], certificate: &'a [u8]) -> Checked
+pub fn check(file: &[u8], certificate: &[u8]) -> Result<Passed, Refusal>
     ensures { checked_outcome result ≡ answer_of file.now certificate.now }
 {
-    let read = file::read(file);
-    let answer = read.answer;
-    match answer {
-        Read::Refused(r) => Checked::Refused(r),
-        Read::Taken => check_circuit(read.circuit, file, certificate),
-    }
-}
-
-// 11 to 15 of a certificate for the circuit that `file` means, over its net.
-fn check_circuit<'a>(c: Circuit, file: &'a [u8], certificate: &'a [u8]) -> Checked
-    requires { circuit_in file.now ≡ taken (meant c) }
-    ensures { checked_outcome result ≡ answer_of file.now certificate.now }
-{
-    let made = net::make(c);
-    let numbers = made.numbers;
-    check_net(&numbers[..made.length], file, certificate)
+    let made = net::make(file::read(file)?);
+    check_net(SizedNet::new(made.as_slice()), file, certificate)
 }
 
 // 11 and 12; then the tables are judged.
-fn check_net<'a>(net: &'a [u16], file: &'a [u8], certificate: &'a [u8]) -> Checked
-    requires { FileNet file.now net.now }
+fn check_net(net: SizedNet<'_>, file: &[u8], certificate: &[u8]) -> Result<Passed, Refusal>
+    requires { FileNet file.now net.numbers.now }
     ensures { checked_outcome result ≡ answer_of file.now certificate.now }
 {
-    match shape_of(certificate) {
+    let shape = shape_of(certificate).ok_or(refused(Fault::BadShape))?;
+    if circuit_record(certificate) != file {
+        return Err(refused(Fault::OtherCircuit));
+    }
+    match shape {
         Shape::Replies {
-            circuit_end,
             region,
-            region_end,
             table,
-            table_end,
             kind,
+            ..
         } => {
-            if !same_bytes(&certificate[HEAD..circuit_end], file) {
-                return Checked::Refused(Refusal {
-                    number: OTHER_CIRCUIT,
-                    place: 0,
-                });
-            }
-            check_replies(
+            let tables = ReplyTables {
                 net,
-                &certificate[region..region_end],
+                region: region.bytes_of(certificate),
                 kind,
-                &certificate[table..table_end],
-                region,
-                table,
-            )
+                table: table.bytes_of(certificate),
+            };
+            tables.check()?;
+            Ok(Passed::Replies {
+                region: region.start,
+                replies: table.start,
+                kind,
+                counts: net.counts,
+            })
         }
-        Shape::Attacks {
-            circuit_end,
-            table,
-            table_end,
-        } => {
-            if !same_bytes(&certificate[HEAD..circuit_end], file) {
-                return Checked::Refused(Refusal {
-                    number: OTHER_CIRCUIT,
-                    place: 0,
-                });
-            }
-            check_attacks(net, &certificate[table..table_end], table)
+        Shape::Attacks { table, .. } => {
+            let attacks = AttackTable {
+                net,
+                table: table.bytes_of(certificate),
+            };
+            attacks.check()?;
+            Ok(Passed::Attacks {
+                table: table.start,
+                latches: net.counts.latches,
+                readings: net.counts.readings,
+            })
         }
-        Shape::Other => Checked::Refused(Refusal {
-            number: BAD_SHAPE,
-            place: 0,
-        }),
     }
 }
 
-// A power of two.
-fn power(width: usize) -> usize
-    requires { width < 64 }
-    ensures { result ≡ 2 ^ width }
+// A refusal that has no place of its own.
+fn refused(fault: Fault) -> Refusal
+    ensures { result ≡ record { fault = fault; place = 0 } }
 {
-    1 << width
+    Refusal { fault, place: 0 }
 }

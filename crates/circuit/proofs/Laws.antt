@@ -1,8 +1,7 @@
 pub mod SameCircuit
+pub mod Fault
 pub mod Answer
 pub mod StoredLiteral
-pub mod Counted
-pub mod Counts
 pub mod Outcome
 pub mod Inputs
 pub mod Solvable

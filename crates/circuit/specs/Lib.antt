@@ -2,7 +2,9 @@ pub mod Limits
 pub mod Outcome
 pub mod Literal
 pub mod Circuit
+pub mod Fault
 pub mod Reset
 pub mod SameCircuit
 pub mod Stored
+pub mod Counts
 pub mod Answer

@@ -7,6 +7,7 @@ use Rattle.circuit.specs.Circuit.{Circuit, Input, Latch, Gate, too_many}
 use Rattle.circuit.specs.Limits.{base}
 use Rattle.circuit.specs.Literal.{too_large}
 use Rattle.circuit.specs.declared.Circuit.{Circuit as Value}
+use Rattle.circuit.specs.declared.lent.Lent.{Lent}
 
 unfoldable pub literal_of : ℕ → ℕ
 literal_of l = cond (too_large base.variable l) 0 l
@@ -58,6 +59,12 @@ meant v =
     on_lines (take v.gates v.lines)
     (lent v.largest (take v.inputs v.input) v.controllable (take v.latches v.latch) v.next v.output
     (take v.gates v.gate) v.left v.right)
+
+-- the circuit that lent arrays stand for
+unfoldable pub meant_lent : Lent → Circuit
+meant_lent l =
+    on_lines l.lines.now
+    (lent l.largest l.input.now l.controllable.now l.latch.now l.next.now l.output l.gate.now l.left.now l.right.now)
 
 -- n numbers: those of a list, then zeros
 unfoldable pub padded : ℕ → List ℕ → List ℕ

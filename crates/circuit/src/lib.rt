@@ -1,9 +1,14 @@
-// The circuit kind: a circuit as a value, its limits, and the number and place of a refusal.
+// The circuit kind: a circuit as a value, what it lends, its limits, and the number and place of a refusal.
 #![tactic(auto)]
 
 pub mod counts;
+pub mod lent;
 pub mod limits;
+pub mod numbers;
 pub mod stored;
+
+pub use lent::Lent;
+pub use numbers::{Fault, Refusal};
 
 // A circuit (01, "The file"; 02, T-01): counts and literals, inputs and latches in the order of the file, gates in order of evaluation; for each
 // gate line of the file, which of the gates it is.
@@ -56,31 +61,4 @@ impl Circuit {
     pub const VALUES: usize = Circuit::VARIABLES + 1;
 
     pub const NAMES: usize = Circuit::INPUTS + Circuit::LATCHES + Circuit::OUTPUTS;
-}
-
-// A refusal (01, "The numbers").
-#[derive(Clone, Copy)]
-pub struct Refusal {
-    pub number: u8,
-    pub place: usize,
-}
-
-// What a reader answers, with the circuit beside it: an enum can't hold an array. After a refusal it is the empty circuit.
-#[derive(Clone, Copy)]
-pub enum Read {
-    Taken,
-    Refused(Refusal),
-}
-
-#[derive(Clone, Copy)]
-pub struct FileRead {
-    pub answer: Read,
-    pub circuit: Circuit,
-}
-
-// What a writer answers: how many bytes it wrote at the front of the buffer, or why it wrote none.
-#[derive(Clone, Copy)]
-pub enum Written {
-    Bytes(usize),
-    Refused(Refusal),
 }

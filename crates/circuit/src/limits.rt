@@ -1,4 +1,5 @@
-// Each limit of the circuit kind, tied to the definition that the contracts cite: a contract can't name a constant of the code.
+// Each limit of the circuit kind, tied to the definition that the contracts cite.
+// Kept as functions: each is public, and a law about the constants would promise their callers nothing.
 ghost use Rattle.std.specs.Prelude.{◌≡◌};
 ghost use Rattle.circuit.specs.Limits.{base};
 

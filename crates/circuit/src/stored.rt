@@ -4,12 +4,14 @@ ghost use Rattle.circuit.specs.Limits.{base};
 ghost use Rattle.circuit.specs.Stored.{literal_of};
 
 use crate::Circuit;
+use below::get_or;
 
 // A literal of a circuit: one that is too large counts as 0.
+#[tactic(auto, unfolding(crate::specs::Stored::literal_of, crate::specs::Literal::too_large))]
 pub fn literal(l: u16) -> u16
     ensures { result ≡ literal_of l }
 {
-    if (l as usize) < 2 * Circuit::VALUES {
+    if usize::from(l) < 2 * Circuit::VALUES {
         l
     } else {
         0
@@ -19,27 +21,19 @@ pub fn literal(l: u16) -> u16
 pub fn literal_at(literals: &[u16], i: usize) -> u16
     ensures { result ≡ literal_of (get_or literals.now i 0) }
 {
-    if i < literals.len() {
-        literal(literals[i])
-    } else {
-        0
-    }
+    literal(get_or(literals, i, 0))
 }
 
 // Whether an input is controllable.
 pub fn is_controllable(controllable: &[u8], i: usize) -> bool
     ensures { result ≡ not (eqb (get_or controllable.now i 0) 0) }
 {
-    if i < controllable.len() {
-        controllable[i] != 0
-    } else {
-        false
-    }
+    get_or(controllable, i, 0) != 0
 }
 
 // How many latches are read: no more than a circuit may have.
 pub fn latches_of(n: usize) -> usize
     ensures { result ≡ min n base.latches }
 {
-    below::fewer(n, Circuit::LATCHES)
+    n.min(Circuit::LATCHES)
 }

@@ -1,14 +1,14 @@
 // What the programs share: the arguments, a file read whole, a file saved, a refusal printed. Trouble is told at once, as one line on
-// standard error.
+// standard error. Names, files and certificates stand in arrays with a count beside, so no memory can run out for them.
 #![tactic(auto)]
 
 mod place;
 pub mod save;
 mod trouble;
 
-ghost use Rattle.std.specs.Prelude.{◌≡◌, ◌+◌, ◌<◌, false, min, length, replicate, take, OnOk};
+ghost use Rattle.std.specs.Prelude.{◌≡◌, ◌+◌, ◌<◌, length, replicate, take, IfOk, IfErr};
 ghost use Rattle.std.specs.Io.KnownBytes.{Consumes, IsAtEnd};
-ghost use Rattle.desk.specs.Counts.{IsPrefixLen};
+ghost use Rattle.desk.specs.Counts.{IsPrefixLen, filled_bytes, read_bytes};
 ghost use Rattle.circuit.specs.Limits.{base};
 
 use circuit::{Circuit, Refusal};
@@ -24,10 +24,9 @@ pub const CERTIFICATE: usize = 3 * HEAD + Circuit::FILE + Circuit::REGION + Circ
 // As many bytes as hold any name of a file that the system takes.
 pub const NAME: usize = 4096;
 
-// How many bytes stand at the front of a space, or that there was trouble, which has been told.
-#[derive(Clone, Copy)]
-pub struct Filled {
-    pub trouble: bool,
+// Trouble that has been told. So many bytes stand at the front of a space that was to be filled all the same.
+#[derive(Clone, Copy, Debug, PartialEq, Eq)]
+pub struct Told {
     pub bytes: usize,
 }
 
@@ -49,71 +48,38 @@ pub fn blank_certificate() -> [u8; CERTIFICATE]
 
 // How many arguments there are, the program's own name among them.
 pub fn argument_count(rt: &HostRuntime) -> usize {
-    for i in 0..usize::MAX {
-        if !has_argument(rt, i) {
-            return i;
-        }
-    }
-    usize::MAX
+    (0..usize::MAX).take_while(|&i| has_argument(rt, i)).count()
 }
 
 // No byte is asked for: one that is there and has some is too long.
 fn has_argument(rt: &HostRuntime, i: usize) -> bool {
-    match rt.arg(i, &mut []) {
-        Err(FillError::NotPresent) => false,
-        _ => true,
-    }
+    !matches!(rt.arg(i, &mut []), Err(FillError::NotPresent))
 }
 
-// Fills the space with an argument.
-pub fn argument(rt: &HostRuntime, i: usize, space: &mut [u8]) -> Filled
-    ensures { IsPrefixLen result.«bytes» space.new }
+// Fills the space with an argument, and answers how many bytes it has.
+pub fn argument(rt: &HostRuntime, i: usize, space: &mut [u8]) -> Result<usize, Told>
+    ensures prefix_len { IsPrefixLen (filled_bytes result) space.new }
+    ensures trouble { IfErr result (λ told. told.bytes ≡ 0) }
 {
-    match rt.arg(i, space) {
-        Ok(n) => Filled {
-            trouble: false,
-            bytes: n,
-        },
-        Err(error) => {
-            fail(rt, b"argument", missing_argument(error));
-            Filled {
-                trouble: true,
-                bytes: 0,
-            }
-        }
-    }
+    rt.arg(i, space)
+        .map_err(|why| fail(rt, b"argument", missing_argument(why)))
 }
 
 // Fills the space with the file that an argument names, as far as it goes.
-pub fn read_argument(rt: &HostRuntime, i: usize, space: &mut [u8]) -> Filled
-    ensures { IsPrefixLen result.«bytes» space.new }
+pub fn read_argument(rt: &HostRuntime, i: usize, space: &mut [u8]) -> Result<usize, Told>
+    ensures { IsPrefixLen (filled_bytes result) space.new }
 {
     let mut name = [0; NAME];
-    let filled = argument(rt, i, &mut name);
-    if filled.trouble {
-        return Filled {
-            trouble: true,
-            bytes: 0,
-        };
-    }
-    let n = filled.bytes;
+    let n = argument(rt, i, &mut name)?;
     read_file(rt, &name[..n], space)
 }
 
 // Fills the space with the file of this name, as far as it goes.
-pub fn read_file(rt: &HostRuntime, name: &[u8], space: &mut [u8]) -> Filled
-    ensures { IsPrefixLen result.«bytes» space.new }
+pub fn read_file(rt: &HostRuntime, name: &[u8], space: &mut [u8]) -> Result<usize, Told>
+    ensures { IsPrefixLen (filled_bytes result) space.new }
 {
-    match open(rt, name) {
-        Ok(mut file) => read_open(rt, &mut file, name, space),
-        Err(error) => {
-            fail(rt, name, error);
-            Filled {
-                trouble: true,
-                bytes: 0,
-            }
-        }
-    }
+    let mut file = open(rt, name).map_err(|error| fail(rt, name, error))?;
+    read_open(rt, &mut file, name, space)
 }
 
 fn open(rt: &HostRuntime, name: &[u8]) -> io::Result<fs::File> {
@@ -121,49 +87,51 @@ fn open(rt: &HostRuntime, name: &[u8]) -> io::Result<fs::File> {
 }
 
 // Fills the space with what an open file or another reader gives, as far as it goes.
-pub fn read_open<R: Read>(rt: &HostRuntime, reader: &mut R, name: &[u8], space: &mut [u8]) -> Filled
-    ensures prefix_len { IsPrefixLen result.«bytes» space.new }
-    ensures known { Consumes (R.remaining reader.old) (R.remaining reader.new) (take result.«bytes» space.new) }
-    ensures end { result.trouble ≡ false → result.«bytes» < length space.new → IsAtEnd (R.remaining reader.new) }
+pub fn read_open<R: Read>(
+    rt: &HostRuntime,
+    reader: &mut R,
+    name: &[u8],
+    space: &mut [u8],
+) -> Result<usize, Told>
+    ensures prefix_len { IsPrefixLen (filled_bytes result) space.new }
+    ensures known { Consumes (R.remaining reader.old) (R.remaining reader.new) (take (filled_bytes result) space.new) }
+    ensures end { IfOk result (λ n. n < length space.new → IsAtEnd (R.remaining reader.new)) }
 {
-    let (n, ended) = fill(reader, space);
-    match ended {
-        Ok(()) => Filled {
-            trouble: false,
-            bytes: n,
-        },
-        Err(error) => {
-            fail(rt, name, error);
-            Filled {
-                trouble: true,
-                bytes: n,
-            }
-        }
-    }
+    fill(reader, space).map_err(|cut| {
+        fail(rt, name, cut.error);
+        Told { bytes: cut.bytes }
+    })
 }
 
-// Fills the space until it is full, the reader ends or a read fails; answers how many bytes stand at the front, and the read that failed.
-pub(crate) fn fill<R: Read>(reader: &mut R, space: &mut [u8]) -> (usize, io::Result<()>)
-    ensures prefix_len { IsPrefixLen result.0 space.new }
-    ensures known { Consumes (R.remaining reader.old) (R.remaining reader.new) (take result.0 space.new) }
-    ensures end { OnOk result.1 (result.0 < length space.new → IsAtEnd (R.remaining reader.new)) }
+// A read that failed, behind so many bytes.
+#[derive(Drop)]
+pub(crate) struct Cut {
+    pub bytes: usize,
+    pub error: io::Error,
+}
+
+// Fills the space until it is full, the reader ends or a read fails, and answers how many bytes stand at the front. Each read goes on where
+// the last one ended.
+pub(crate) fn fill<R: Read>(reader: &mut R, space: &mut [u8]) -> Result<usize, Cut>
+    ensures prefix_len { IsPrefixLen (read_bytes result) space.new }
+    ensures known { Consumes (R.remaining reader.old) (R.remaining reader.new) (take (read_bytes result) space.new) }
+    ensures end { IfOk result (λ n. n < length space.new → IsAtEnd (R.remaining reader.new)) }
 {
     let mut n = 0;
+    // Kept as a loop by hand: no method of a reader says how many bytes it gave before an error.
     while n < space.len() {
         match reader.read(&mut space[n..]) {
             Ok(0) => break,
             Ok(more) => n += more,
-            Err(error) => return (n, Err(error)),
+            Err(error) => return Err(Cut { bytes: n, error }),
         }
     }
-    (n, Ok(()))
+    Ok(n)
 }
 
-// `refused`, number and place.
+// A refusal as a line: `refused`, number and place.
 pub fn print_refusal(rt: &HostRuntime, refusal: Refusal) {
-    let number = print_number(rt, b"refused ", refusal.number as u64);
-    let place = print_number(rt, b" ", refusal.place as u64);
-    print_end(rt, place.and(number));
+    tell_unwritten(rt, rt.println(refusal));
 }
 
 // A number behind a text, or why they couldn't be written whole.
@@ -186,19 +154,11 @@ fn tell_unwritten(rt: &HostRuntime, written: io::Result<()>) {
 
 // Prints the first n bytes of a page, or all if it has fewer.
 pub fn print_front(rt: &HostRuntime, page: &[u8], n: usize) {
-    let end = front(page, n);
-    tell_unwritten(rt, rt.write_all(&page[..end]));
-}
-
-// How many of the first n bytes there are.
-pub fn front(page: &[u8], n: usize) -> usize
-    ensures prefix_len { IsPrefixLen result page.now }
-    ensures value { result ≡ min n (length page.now) }
-{
-    if n < page.len() { n } else { page.len() }
+    tell_unwritten(rt, rt.write_all(below::front(page, n)));
 }
 
 // Tells trouble that the system has no words for.
-pub fn tell(rt: &HostRuntime, what: &[u8], trouble: &[u8]) {
+pub fn tell(rt: &HostRuntime, what: &[u8], trouble: &[u8]) -> Told {
     print_line(rt, what, trouble);
+    Told { bytes: 0 }
 }

@@ -1,7 +1,7 @@
 // Trouble that the system tells by an error, told in the system's words.
-ghost use Rattle.std.specs.Prelude.{◌≤◌};
+ghost use Rattle.std.specs.Prelude.{◌≡◌};
 
-use crate::NAME;
+use crate::{NAME, Told};
 use std::env::FillError;
 use std::io::{ErrorKind, Write};
 use std::{io, str};
@@ -18,46 +18,42 @@ const NUMBER: &str = " (os error ";
 const WORDS: usize = 256;
 
 // Tells what failed, as the caller names it, and why.
-pub(crate) fn fail(rt: &HostRuntime, what: &[u8], error: io::Error) {
+pub(crate) fn fail(rt: &HostRuntime, what: &[u8], error: io::Error) -> Told
+    ensures { result.«bytes» ≡ 0 }
+{
     let mut space = [0; WORDS];
-    let n = put_words(&mut space, error);
-    match str::from_utf8(&space[..n]) {
-        Ok(text) => print_line(rt, what, without_number(text).as_bytes()),
-        Err(_) => print_line(rt, what, &space[..n]),
-    }
+    let words = words_of(error, &mut space);
+    let why = str::from_utf8(words).map_or(words, |text| without_number(text).as_bytes());
+    print_line(rt, what, why);
+    Told { bytes: 0 }
 }
 
-// Puts the words of an error at the front of the space, as far as they go, and answers their length.
-fn put_words(space: &mut [u8; WORDS], error: io::Error) -> usize
-    ensures { result ≤ 256 }
-{
+// The words of an error, put at the front of the space as far as they go.
+fn words_of(error: io::Error, space: &mut [u8; WORDS]) -> &[u8] {
     let mut left = &mut space[..];
     let _ = write!(left, "{error}");
-    WORDS.saturating_sub(left.len())
+    let n = WORDS.saturating_sub(left.len());
+    &space[..n]
 }
 
 fn without_number(text: &str) -> &str {
-    match text.rsplit_once(NUMBER) {
-        Some((words, _)) => words,
-        None => text,
-    }
+    text.rsplit_once(NUMBER).map_or(text, |(words, _)| words)
 }
 
 // Prints what, a colon and why as a line on standard error. Where that can't be written, there is no place to tell it.
 pub(crate) fn print_line(rt: &HostRuntime, what: &[u8], why: &[u8]) {
     let to = rt.stderr();
-    let _ = Print::write_all(&to, what);
-    let _ = Print::write_all(&to, b": ");
-    let _ = Print::write_all(&to, why);
-    let _ = Print::write_all(&to, b"\n");
+    for part in [what, b": ", why, b"\n"] {
+        let _ = Print::write_all(&to, part);
+    }
 }
 
-// Why an argument can't be had.
+// Why an argument can't be had. Both types are std's, so this is no `From`.
 pub(crate) fn missing_argument(why: FillError) -> io::Error {
-    match why {
-        FillError::NotPresent => io::Error::from_raw_os_error(INVALID),
-        FillError::TooLong => io::Error::from_raw_os_error(TOO_LONG),
-    }
+    io::Error::from_raw_os_error(match why {
+        FillError::NotPresent => INVALID,
+        FillError::TooLong => TOO_LONG,
+    })
 }
 
 // A name as std takes one: text, and not longer than the system takes it.
@@ -65,11 +61,10 @@ pub(crate) fn path(name: &[u8]) -> io::Result<&str> {
     if name.len() >= NAME {
         return Err(io::Error::from_raw_os_error(TOO_LONG));
     }
-    match str::from_utf8(name) {
-        Ok(path) => Ok(path),
-        Err(_) => Err(io::Error::new(
+    str::from_utf8(name).map_err(|_| {
+        io::Error::new(
             ErrorKind::InvalidFilename,
             "isn't a name in UTF-8, so it can't be opened",
-        )),
-    }
+        )
+    })
 }

@@ -1,9 +1,11 @@
+pub mod Runs
 pub mod Judged
 pub mod Position
-pub mod PositionNumber
+pub mod Numerals
 pub mod PositionFields
 pub mod RowLoop
 pub mod Truth
-pub mod PositionSymbol
+pub mod Compared
 pub mod Picked
 pub mod Decided
+pub mod NamedPlaces

@@ -1,58 +1,58 @@
 // Numbers (01, "The file"): one to seven decimal digits, without a leading zero unless it is 0 itself.
-ghost use Rattle.std.specs.Prelude.{◌+◌, ◌≡◌};
-ghost use Rattle.fields.specs.Inner.NumberAt.{digit_at, NumberAt};
+ghost use Rattle.std.specs.Prelude.{◌^◌, ◌<◌, ◌≡◌, drop};
+ghost use Rattle.fields.specs.Inner.NumberAt.{Digits, NumberAt};
+ghost use Rattle.text.specs.Number.{decimal_value, is_digit, is_numeral, run};
 
-// A number with the place behind it, or none.
-#[derive(Clone, Copy)]
-pub enum Num {
-    Is(u32, usize),
-    Bad,
+use crate::line::from;
+
+// A number with the place behind it.
+#[derive(Clone, Copy, Debug, PartialEq, Eq)]
+pub struct Numeral {
+    pub value: u32,
+    pub behind: usize,
 }
 
-fn wide(b: u8) -> u32
-    ensures { result ≡ b }
+// The digits that stand at a place.
+fn digits_at(s: &[u8], at: usize) -> &[u8]
+    ensures { result.now ≡ run is_digit (drop at s.now) }
 {
-    b as u32
+    let rest = from(s, at);
+    let n = rest.iter().take_while(|b| b.is_ascii_digit()).count();
+    &rest[..n]
 }
 
-// What the digit at a place says, or 10 where there is none.
-fn digit_at(s: &[u8], i: usize) -> u32
-    ensures { result ≡ digit_at s.now i }
+// What so few digits say.
+fn value_of(digits: &[u8]) -> u32
+    requires { Digits digits.now }
+    ensures value { result ≡ decimal_value 0 digits.now }
+    ensures small { result < 10 ^ 7 }
 {
-    if i < s.len() {
-        let b = wide(s[i]);
-        if 48 <= b {
-            if b <= 57 {
-                return b - 48;
-            }
-        }
+    let mut value = 0;
+    for digit in digits {
+        value = value * 10 + u32::from(digit - b'0');
     }
-    10
+    value
+}
+
+// Whether digits make a number.
+#[tactic(auto, unfolding(text::specs::Number::is_numeral))]
+fn is_numeral(digits: &[u8]) -> bool
+    ensures { result ≡ is_numeral digits.now }
+{
+    let n = digits.len();
+    1 <= n && n <= 7 && (digits[0] != b'0' || n == 1)
 }
 
 // The number that starts at a place.
-pub fn number_at(s: &[u8], at: usize) -> Num
+pub fn number_at(s: &[u8], at: usize) -> Option<Numeral>
     ensures { NumberAt s.now at result }
 {
-    let first = digit_at(s, at);
-    let mut d = first;
-    let mut i = at;
-    let mut v: u32 = 0;
-    while d < 10 {
-        if i - at == 7 {
-            return Num::Bad;
-        }
-        v = v * 10 + d;
-        i += 1;
-        d = digit_at(s, i);
+    let digits = digits_at(s, at);
+    if is_numeral(digits) {
+        return Some(Numeral {
+            value: value_of(digits),
+            behind: at + digits.len(),
+        });
     }
-    if i == at {
-        return Num::Bad;
-    }
-    if first == 0 {
-        if 1 < i - at {
-            return Num::Bad;
-        }
-    }
-    Num::Is(v, i)
+    None
 }

@@ -4,8 +4,10 @@
 ghost use Rattle.circuit.specs.Answer.{ReadAs};
 ghost use Rattle.file.specs.CircuitIn.{circuit_in};
 
-// Reads a file of any content. After a refusal the circuit is the empty one.
-pub fn read(file: &[u8]) -> circuit::FileRead
+use circuit::{Circuit, Refusal};
+
+// Reads a file of any content.
+pub fn read(file: &[u8]) -> Result<Circuit, Refusal>
     ensures { ReadAs (circuit_in file.now) result }
 {
     reader::read::read(file)

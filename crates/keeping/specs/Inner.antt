@@ -1,2 +1,1 @@
 pub mod InLane
-pub mod KeptControls

@@ -1,2 +1,4 @@
 pub mod RankList
+pub mod Unranked
+pub mod KeptControls
 pub mod Inner

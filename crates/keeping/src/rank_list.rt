@@ -1,48 +1,59 @@
-// A list of ranks (01, "The game"): a state that isn't in it has rank 0.
-ghost use Rattle.std.specs.Prelude.{◌&&◌, ◌≡◌, ltb};
-ghost use Rattle.game.specs.Rank.{not_ranked};
+// A list of ranks (01, "The game"): a state that isn't in it has rank 0. And whether a control keeps, by the state that it leads to.
+ghost use Rattle.std.specs.Prelude.{◌<◌, ◌≡◌, IfSome, length, unwrap_or};
 ghost use Rattle.keeping.specs.RankList.{ranks_in};
-ghost use Rattle.keeping.specs.Inner.KeptControls.{first_failed};
 
+use below::get_or;
+
+#[tactic(auto, unfolding(crate::specs::RankList::ranks_in))]
 pub fn rank_at(ranks: &[u16], state: usize) -> u16
     ensures { result ≡ ranks_in ranks.now state }
 {
-    if state < ranks.len() { ranks[state] } else { 0 }
+    get_or(ranks, state, 0)
 }
 
-// Whether a state isn't of rank 1 to a bound.
-pub fn is_unranked(ranks: &[u16], bound: u16, state: usize) -> bool
-    ensures { result ≡ not_ranked (ranks_in ranks.now) bound state }
-{
-    let x = rank_at(ranks, state);
-    if x < 1 {
-        return true;
+// The states that aren't of rank 1 to a bound.
+#[derive(Clone, Copy, Debug, PartialEq, Eq)]
+pub struct Unranked<'a> {
+    pub ranks: &'a [u16],
+    pub bound: u16,
+}
+
+// What is kept of a place: one more than a control, or 0 where none was found; and the state that it leads to. No `Option`: it would take six
+// bytes in place of four, for each of up to 32,768 places.
+#[derive(Clone, Copy, Debug, PartialEq, Eq)]
+pub struct KeptControl {
+    pub found: u16,
+    pub lead: u16,
+}
+
+impl Unranked<'_> {
+    ghost use Rattle.keeping.specs.Unranked.{set_of};
+    ghost use Rattle.keeping.specs.KeptControls.{still_keeps, first_failed};
+
+    pub fn contains(self, state: usize) -> bool
+        ensures { result ≡ set_of self.entry state }
+    {
+        !(1..=self.bound).contains(&get_or(self.ranks, state, 0))
     }
-    bound < x
-}
 
-// The first place from one on whose kept control doesn't keep any more; or as many as are kept.
-pub fn first_failed<'a>(kept: &'a [u16], ranks: &'a [u16], bound: u16, from: usize) -> usize
-    ensures { result ≡ first_failed kept.now (not_ranked (ranks_in ranks.now) bound) from }
-{
-    let n = kept.len() / 2;
-    let mut p = from;
-    while p < n {
-        if !still_keeps(kept[2 * p], kept[2 * p + 1], ranks, bound) {
-            return p;
+    // Whether a control was found, and leads to one of these states.
+    #[tactic(auto, unfolding(crate::specs::KeptControls::still_keeps))]
+    pub fn still_keeps(self, kept: KeptControl) -> bool
+        ensures { result ≡ still_keeps kept (set_of self.entry) }
+    {
+        0 < kept.found && self.contains(usize::from(kept.lead))
+    }
+
+    // The first place from one on whose kept control doesn't keep any more.
+    pub fn first_failed(self, kept: &[KeptControl], from: usize) -> Option<usize>
+        ensures place { unwrap_or result (length kept.now) ≡ first_failed kept.now (set_of self.entry) from }
+        ensures within { IfSome result (λ place. place < length kept.now) }
+    {
+        for place in from..kept.len() {
+            if !self.still_keeps(kept[place]) {
+                return Some(place);
+            }
         }
-        p += 1;
-    }
-    n
-}
-
-// Whether a control was found, and leads to a state that isn't of rank 1 to a bound.
-pub fn still_keeps(found: u16, lead: u16, ranks: &[u16], bound: u16) -> bool
-    ensures { result ≡ (ltb 0 found && not_ranked (ranks_in ranks.now) bound lead) }
-{
-    if 0 < found {
-        is_unranked(ranks, bound, lead as usize)
-    } else {
-        false
+        None
     }
 }

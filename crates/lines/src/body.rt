@@ -1,48 +1,40 @@
 // One line before the symbols (01, "The file", rule 2): its numbers, or the first of 4, 5 and 6 that applies to it.
 ghost use Rattle.std.specs.Prelude.{◌≡◌};
-ghost use Rattle.fields.specs.Inner.Marks.{number_or};
+ghost use Rattle.fields.specs.Inner.Marks.{number_if};
 ghost use Rattle.lines.specs.Inner.Kinds.{rule_of, fault_of};
 ghost use Rattle.lines.specs.Inner.LinedAs.{LinedAs};
 
 use crate::kind::{Form, Kind, form_of};
-use fields::judge::{bad_own, both, either, first_of, is_marked, too_large};
-use fields::row::{Row, row_at};
+use circuit::Fault;
+use fields::judge::{bad_own, first_of, is_marked, too_large};
+use fields::row::row_at;
 
-// A line's literals; what isn't there is 0.
-#[derive(Clone, Copy)]
-pub enum Lined {
-    Row(u32, u32, u32),
-    Fault(u8),
-}
-
-// A whole line of a kind, where the marked variables were defined above. That what a line uses is defined is looked at behind all gate
-// lines.
-pub fn line(kind: Kind, bytes: &[u8], m: u32, defined: &[u8]) -> Lined
+// A whole line of a kind, where the marked variables were defined above: its literals, 0 where there is none. That what a line uses is
+// defined is looked at behind all gate lines.
+pub fn line(kind: Kind, bytes: &[u8], m: u32, defined: &[u8]) -> Result<[u32; 3], Fault>
     ensures { LinedAs m (rule_of kind m) defined.now bytes.now result }
 {
     let form = form_of(kind);
-    let Row::Of(count, own, a, b, _, _) = row_at(bytes, 0) else {
-        return Lined::Fault(4);
+    let Some(row) = row_at(bytes, 0) else {
+        return Err(Fault::BadLine);
     };
-    if count < form.fewest {
-        return Lined::Fault(4);
+    if row.count < form.fewest || form.most < row.count {
+        return Err(Fault::BadLine);
     }
-    if form.most < count {
-        return Lined::Fault(4);
+    let [own, a, b, ..] = row.numbers;
+    match fault_of(form, m, own, a, b, defined) {
+        Some(fault) => Err(fault),
+        None => Ok([own, a, b]),
     }
-    let number = fault_of(form, m, own, a, b, defined);
-    if number == 0 {
-        return Lined::Row(own, a, b);
-    }
-    Lined::Fault(number)
 }
 
-// The first of 5 and 6 that a line's literals call for, or 0.
-fn fault_of(form: Form, m: u32, own: u32, a: u32, b: u32, defined: &[u8]) -> u8
-    ensures { result ≡ number_or (fault_of form m defined.now own a b) }
+// The first of 5 and 6 that a line's literals call for.
+#[tactic(auto, unfolding(crate::specs::Inner::Kinds::fault_of))]
+fn fault_of(form: Form, m: u32, own: u32, a: u32, b: u32, defined: &[u8]) -> Option<Fault>
+    ensures { number_if result ≡ fault_of form m defined.now own a b }
 {
-    let large = either(too_large(m, own), either(too_large(m, a), too_large(m, b)));
-    let bad = both(form.defines, bad_own(m, own));
-    let twice = both(form.defines, is_marked(defined, own));
-    first_of(either(bad, large), twice)
+    let large = too_large(m, own) || too_large(m, a) || too_large(m, b);
+    let bad = form.defines && bad_own(m, own);
+    let twice = form.defines && is_marked(defined, own);
+    first_of(bad || large, twice)
 }

@@ -1,11 +1,10 @@
 // The header (01, "The file", rule 1): `aag M I L O A`.
 ghost use Rattle.lines.specs.Inner.Headed.{HeadedAs};
 
-use fields::name::starts_with;
-use fields::row::{Row, row_at};
+use fields::row::row_at;
 
 // M and how many inputs, latches, outputs and gates there are.
-#[derive(Clone, Copy)]
+#[derive(Clone, Copy, Debug, PartialEq, Eq)]
 pub struct Header {
     pub largest: u32,
     pub inputs: u32,
@@ -14,28 +13,22 @@ pub struct Header {
     pub gates: u32,
 }
 
-#[derive(Clone, Copy)]
-pub enum Headed {
-    Is(Header),
-    Bad,
-}
-
-pub fn header_line(line: &[u8]) -> Headed
+pub fn header_line(line: &[u8]) -> Option<Header>
     ensures { HeadedAs line.now result }
 {
-    if starts_with(b"aag ", line, 0) {
-        let Row::Of(count, largest, inputs, latches, outputs, gates) = row_at(line, 4) else {
-            return Headed::Bad;
-        };
-        if count == 5 {
-            return Headed::Is(Header {
-                largest,
-                inputs,
-                latches,
-                outputs,
-                gates,
-            });
-        }
+    if !line.starts_with(b"aag ") {
+        return None;
     }
-    Headed::Bad
+    let row = row_at(line, 4)?;
+    if row.count != 5 {
+        return None;
+    }
+    let [largest, inputs, latches, outputs, gates] = row.numbers;
+    Some(Header {
+        largest,
+        inputs,
+        latches,
+        outputs,
+        gates,
+    })
 }

@@ -5,7 +5,7 @@ ghost use Rattle.lines.specs.Inner.Kinds.{form_of, kind_at};
 
 use crate::header::Header;
 
-#[derive(Clone, Copy)]
+#[derive(Clone, Copy, Debug, PartialEq, Eq)]
 pub enum Kind {
     Input,
     Latch,
@@ -14,7 +14,7 @@ pub enum Kind {
 }
 
 // What a kind asks: from how many numbers to how many; and whether the first defines a variable.
-#[derive(Clone, Copy)]
+#[derive(Clone, Copy, Debug, PartialEq, Eq)]
 pub struct Form {
     pub fewest: usize,
     pub most: usize,
@@ -24,44 +24,32 @@ pub struct Form {
 pub fn form_of(kind: Kind) -> Form
     ensures { result ≡ form_of kind }
 {
-    match kind {
-        Kind::Input => Form {
-            fewest: 1,
-            most: 1,
-            defines: true,
-        },
-        Kind::Latch => Form {
-            fewest: 2,
-            most: 2,
-            defines: true,
-        },
-        Kind::Output => Form {
-            fewest: 1,
-            most: 1,
-            defines: false,
-        },
-        Kind::Gate => Form {
-            fewest: 3,
-            most: 3,
-            defines: true,
-        },
+    let count = match kind {
+        Kind::Input | Kind::Output => 1,
+        Kind::Latch => 2,
+        Kind::Gate => 3,
+    };
+    Form {
+        fewest: count,
+        most: count,
+        defines: kind != Kind::Output,
     }
 }
 
 // The kind of a line, counted from the one behind the header: inputs, latches, the output, gates.
+#[tactic(auto, unfolding(crate::specs::Inner::Kinds::kind_at))]
 pub fn kind_of(h: Header, j: usize) -> Kind
     ensures { result ≡ kind_at (said h) j }
 {
     let inputs = h.inputs as usize;
     let behind = inputs + h.latches as usize;
     if j < inputs {
-        return Kind::Input;
+        Kind::Input
+    } else if j < behind {
+        Kind::Latch
+    } else if j == behind {
+        Kind::Output
+    } else {
+        Kind::Gate
     }
-    if j < behind {
-        return Kind::Latch;
-    }
-    if j == behind {
-        return Kind::Output;
-    }
-    Kind::Gate
 }

@@ -1,5 +1,5 @@
 // One line behind the gates (01, "The file", rules 5 and 6): a symbol, the comment's line, or neither.
-ghost use Rattle.std.specs.Prelude.{◌^◌, ◌<◌, ◌≡◌, ◌&&◌, eqb, get_or, drop};
+ghost use Rattle.std.specs.Prelude.{◌^◌, ◌<◌, ◌≡◌, ◌&&◌, eqb, drop};
 ghost use Rattle.bits.specs.Bytes.{starts_with};
 ghost use Rattle.lines.specs.Inner.Headed.{said};
 ghost use Rattle.lines.specs.Inner.Named.{slot_of};
@@ -7,106 +7,92 @@ ghost use Rattle.lines.specs.Inner.SymboledAs.{SymbolAt, SymbolAs};
 ghost use Rattle.text.specs.Symbol.{positions, input_letter, prefix};
 
 use crate::header::Header;
+use below::get_or;
+use circuit::Fault;
 use fields::name::{is_comment, is_named, starts_with};
-use fields::number::{Num, number_at};
+use fields::number::{Numeral, number_at};
 
-// What a line behind the gates is: the comment's, a symbol's (where its mark stands, its position, and whether it makes an input
-// controllable), or none.
-#[derive(Clone, Copy)]
-pub enum Symboled {
-    Comment,
-    Of(usize, usize, bool),
-    Bad,
+// A symbol: where its mark stands, its position, and whether it makes an input controllable.
+#[derive(Clone, Copy, Debug, PartialEq, Eq)]
+pub struct Symbol {
+    pub slot: usize,
+    pub position: usize,
+    pub controls: bool,
 }
 
-// A whole line, where a header's counts say which positions can be named and the marked ones were named above.
-pub fn symbol_line(line: &[u8], h: Header, named: &[u8]) -> Symboled
+// A whole line, where a header's counts say which positions can be named and the marked ones were named above: its symbol, or none at the
+// comment's line.
+pub fn symbol_line(line: &[u8], h: Header, named: &[u8]) -> Result<Option<Symbol>, Fault>
     ensures { SymbolAs (said h) named.now line.now result }
 {
     if is_comment(line) {
-        return Symboled::Comment;
+        return Ok(None);
     }
-    if line.len() == 0 {
-        return Symboled::Bad;
+    if line.is_empty() {
+        return Err(Fault::BadSymbol);
     }
-    let letter = line[0];
-    let Num::Is(position, next) = number_at(line, 1) else {
-        return Symboled::Bad;
+    let Some(number) = number_at(line, 1) else {
+        return Err(Fault::BadSymbol);
     };
-    symbol_at(line, letter, position, next, h, named)
+    match symbol_at(line, line[0], number, h, named) {
+        Some(symbol) => Ok(Some(symbol)),
+        None => Err(Fault::BadSymbol),
+    }
 }
 
 // What stands behind a letter and its position.
-fn symbol_at(
-    line: &[u8],
-    letter: u8,
-    position: u32,
-    next: usize,
-    h: Header,
-    named: &[u8],
-) -> Symboled
-    requires { next < 2 ^ 63 }
-    ensures { SymbolAt (said h) named.now letter position (drop next line.now) result }
+fn symbol_at(line: &[u8], letter: u8, number: Numeral, h: Header, named: &[u8]) -> Option<Symbol>
+    requires { number.behind < 2 ^ 63 }
+    ensures { SymbolAt (said h) named.now letter number.value (drop number.behind line.now) result }
 {
-    if is_named(line, next) {
-        let p = position as usize;
-        if p < positions_of(letter, h) {
-            let slot = slot_of(letter, position, h);
-            if is_set(named, slot) {
-                return Symboled::Bad;
-            }
-            let flag = is_controllable(letter, line, next + 1);
-            return Symboled::Of(slot, p, flag);
-        }
+    let position = number.value as usize;
+    let slot = slot_of(letter, number.value, h);
+    if !is_named(line, number.behind) {
+        return None;
     }
-    Symboled::Bad
+    if positions_of(letter, h) <= position {
+        return None;
+    }
+    if get_or(named, slot, 0) == 1 {
+        return None;
+    }
+    Some(Symbol {
+        slot,
+        position,
+        controls: is_controllable(letter, line, number.behind + 1),
+    })
 }
 
 // How many positions a letter has.
+#[tactic(auto, unfolding(text::specs::Symbol::positions))]
 fn positions_of(letter: u8, h: Header) -> usize
     ensures { result ≡ positions (said h) letter }
 {
-    if letter == 105 {
-        return h.inputs as usize;
-    }
-    if letter == 108 {
-        return h.latches as usize;
-    }
-    if letter == 111 {
-        return h.outputs as usize;
-    }
-    0
+    let n = match letter {
+        b'i' => h.inputs,
+        b'l' => h.latches,
+        b'o' => h.outputs,
+        _ => 0,
+    };
+    n as usize
 }
 
 // Where the marks have a letter's position.
+#[tactic(auto, unfolding(crate::specs::Inner::Named::slot_of))]
 fn slot_of(letter: u8, position: u32, h: Header) -> usize
     ensures { result ≡ slot_of (said h) letter position }
 {
     let p = position as usize;
-    if letter == 105 {
-        return p;
+    match letter {
+        b'i' => p,
+        b'l' => h.inputs as usize + p,
+        _ => h.inputs as usize + h.latches as usize + p,
     }
-    if letter == 108 {
-        return h.inputs as usize + p;
-    }
-    h.inputs as usize + h.latches as usize + p
-}
-
-fn is_set(marks: &[u8], i: usize) -> bool
-    ensures { result ≡ eqb (get_or marks.now i 0) 1 }
-{
-    if i < marks.len() {
-        return marks[i] == 1;
-    }
-    false
 }
 
 // Whether a letter and the name at a place make an input controllable.
 fn is_controllable(letter: u8, line: &[u8], at: usize) -> bool
     ensures { result ≡ (eqb letter input_letter && starts_with prefix (drop at line.now)) }
 {
-    if letter == 105 {
-        return starts_with(b"controllable_", line, at);
-    }
-    false
+    letter == b'i' && starts_with(b"controllable_", line, at)
 }

@@ -1,12 +1,12 @@
 -- The listing as text (01, "Listings to compare"): the page that the verdict program prints for a file. Numbers are decimal, single spaces
 -- part the fields, and every line ends in byte 10. Assumes nothing.
-use Rattle.std.specs.Prelude.{ℕ, Bool, cond, length}
+use Rattle.std.specs.Prelude.{ℕ, Bool, cond, length, Result}
 use mathlib.Core.List.{List, [], ◌∷◌, ◌++◌, flat_map}
 use Rattle.bits.specs.Bytes.{ascii}
 use Rattle.circuit.specs.Answer.{WrittenAs, fitted}
 use Rattle.circuit.specs.Circuit.{Circuit}
 use Rattle.circuit.specs.Outcome.{Outcome, taken, refused}
-use Rattle.circuit.specs.declared.Written.{Written}
+use Rattle.circuit.specs.declared.numbers.Refusal.{Refusal}
 use Rattle.file.specs.CircuitIn.{circuit_in}
 use Rattle.game.specs.Listing.{Listing, listing_of}
 use Rattle.text.specs.Written.{number_line}
@@ -30,5 +30,5 @@ unfoldable pub page_of : (file : List ℕ) → List ℕ
 page_of file = page_for (circuit_in file)
 
 -- a writer's answer and its buffer, before and after, say that this page was written, or 10 where the buffer is shorter than it
-abbrev pub PageAs : (page before after : List ℕ) → Written → Type 0
+abbrev pub PageAs : (page before after : List ℕ) → Result ℕ Refusal → Type 0
 PageAs page before after r = WrittenAs (fitted page (length before)) before after r

@@ -1,3 +1,4 @@
+pub mod Room
 pub mod Move
 pub mod Names
 pub mod NetStep

@@ -1,104 +1,55 @@
 // The numbers of a net, put where they stand.
-ghost use Rattle.std.specs.Prelude.{ℕ, ◌+◌, ◌*◌, ◌-◌, ◌≤◌, ◌<◌, [], ◌∷◌, map, ◌≡◌, length, take};
+ghost use Rattle.std.specs.Prelude.{◌+◌, [], ◌∷◌, map, ◌≡◌};
 ghost use Rattle.std.proofs.lemmas.List.Edits.{sets};
-ghost use Rattle.below.specs.Table.{table};
-ghost use Rattle.circuit.specs.Circuit.{Latch};
-ghost use Rattle.circuit.specs.Limits.{base};
-ghost use Rattle.circuit.specs.Stored.{latches_of, gates_of};
-ghost use Rattle.net.specs.InOrder.{variables};
-ghost use Rattle.net.specs.Made.{most};
+ghost use Rattle.circuit.specs.Circuit.{Latch, controllable_count, uncontrollable_count, latch_count};
+ghost use Rattle.circuit.specs.Stored.{meant};
 ghost use Rattle.net.specs.Inner.NamesIn.{names_in};
-ghost use Rattle.net.specs.NetOf.{net_literal, name_gates, operands_of};
+ghost use Rattle.net.specs.NetOf.{gate_start, net_literal, name_gates, operands_of};
 
 use crate::Net;
-use crate::names::{name_at, net_literal};
-use circuit::stored::literal_at;
+use crate::names::Names;
+use below::front;
+use circuit::Circuit;
 
-pub(crate) fn no_numbers() -> [u16; Net::NUMBERS]
-    ensures { result ≡ table (λ i. 0) most }
+// Puts the operands of the gates behind the latches, and names each gate.
+#[tactic(auto, using(crate::proofs::Laws::Putting::gates_put), unfolding(circuit::specs::Counts::counts_of, crate::specs::NetOf::gate_start))]
+pub(crate) fn put_gates(numbers: &mut [u16; Net::NUMBERS], names: &mut Names, c: &Circuit)
+    ensures numbers_after { numbers.new ≡ sets numbers.old (4 + latch_count (meant c.now))
+        (operands_of (meant c.now).gates (gate_start (meant c.now)) (names_in names.old.given)) }
+    ensures names_after { names_in names.new.given
+        ≡ name_gates (meant c.now).gates (gate_start (meant c.now)) (names_in names.old.given) }
 {
-    [0u16; Net::NUMBERS]
-}
-
-// Puts the operands of the first gates behind the latches, and names each gate.
-pub(crate) fn put_gates<'a>(
-    numbers: &mut [u16],
-    names: &mut [u16],
-    gate: &'a [u16],
-    left: &'a [u16],
-    right: &'a [u16],
-    gates: usize,
-    latches: usize,
-    inputs: usize,
-)
-    requires variable_in_bounds { base.variable < length names.old }
-    requires gates_in_bounds { gates ≤ length gate.now }
-    requires few_gates { gates ≤ base.variable }
-    requires few_latches { latches ≤ base.latches }
-    requires few_inputs { inputs ≤ base.inputs }
-    requires room { 4 + latches + 2 * gates ≤ length numbers.old }
-    requires names_below { (u : ℕ) → names_in names.old u < 1 + inputs + latches }
-    ensures numbers_after { numbers.new ≡ sets numbers.old (4 + latches)
-        (operands_of (gates_of (take gates gate.now) left.now right.now) (1 + inputs + latches)
-        (names_in names.old)) }
-    ensures names_after { names_in names.new ≡ name_gates
-        (gates_of (take gates gate.now) left.now right.now) (1 + inputs + latches)
-        (names_in names.old) }
-{
-    let mut v = 1 + inputs + latches;
-    let mut at = 4 + latches;
-    let mut i = 0;
-    while i < gates {
-        let a = net_literal(names, literal_at(left, i));
-        let b = net_literal(names, literal_at(right, i));
-        numbers[at] = a;
-        numbers[at + 1] = b;
-        name_at(names, gate, i, v);
-        v += 1;
-        at += 2;
-        i += 1;
+    let counts = c.lent().counts();
+    let start = 4 + counts.latches;
+    let first = 1 + counts.controls + counts.readings + counts.latches;
+    for (i, gate) in front(&c.gate, c.gates).iter().enumerate() {
+        numbers[start + 2 * i] = names.literal(c.left[i]);
+        numbers[start + 2 * i + 1] = names.literal(c.right[i]);
+        names.name(*gate, first + i);
     }
 }
 
-// Puts the next-state literals of the first latches.
-pub(crate) fn put_nexts<'a>(
-    numbers: &mut [u16],
-    names: &[u16],
-    latch: &'a [u16],
-    next: &'a [u16],
-    latches: usize,
-)
-    requires latches_in_bounds { latches ≤ length latch.now }
-    requires few_latches { latches ≤ base.latches }
-    requires room { 4 + latches ≤ length numbers.old }
-    requires names_below { (v : ℕ) → names_in names.now v < variables }
+// Puts the next-state literals of the latches.
+#[tactic(auto, using(crate::proofs::Laws::Putting::nexts_put))]
+pub(crate) fn put_nexts(numbers: &mut [u16; Net::NUMBERS], names: &Names, c: &Circuit)
     ensures { numbers.new ≡ sets numbers.old 4
-        (map (λ (l : Latch). net_literal (names_in names.now) l.next) (latches_of (take latches latch.now) next.now)) }
+        (map (λ (l : Latch). net_literal (names_in names.now.given) l.next) (meant c.now).latches) }
 {
-    let mut i = 0;
-    while i < latches {
-        let l = net_literal(names, literal_at(next, i));
-        numbers[4 + i] = l;
-        i += 1;
+    for (i, next) in front(&c.next, c.latches).iter().enumerate() {
+        numbers[4 + i] = names.literal(*next);
     }
 }
 
 // Puts C, U, L and the output's literal.
-pub(crate) fn put_head(
-    numbers: &mut [u16],
-    controls: usize,
-    inputs: usize,
-    latches: usize,
-    output: u16,
-)
-    requires controls_le_inputs { controls ≤ inputs }
-    requires few_inputs { inputs ≤ base.inputs }
-    requires few_latches { latches ≤ base.latches }
-    requires room { 4 ≤ length numbers.old }
-    ensures { numbers.new ≡ sets numbers.old 0 (controls ∷ (inputs - controls) ∷ latches ∷ output ∷ []) }
+#[tactic(auto, using(crate::proofs::Laws::Room::heads), unfolding(circuit::specs::Counts::counts_of))]
+pub(crate) fn put_head(numbers: &mut [u16; Net::NUMBERS], names: &Names, c: &Circuit)
+    ensures { numbers.new ≡ sets numbers.old 0
+        (controllable_count (meant c.now) ∷ uncontrollable_count (meant c.now) ∷ latch_count (meant c.now)
+        ∷ net_literal (names_in names.now.given) (meant c.now).output ∷ []) }
 {
-    numbers[0] = controls as u16;
-    numbers[1] = (inputs - controls) as u16;
-    numbers[2] = latches as u16;
-    numbers[3] = output;
+    let counts = c.lent().counts();
+    numbers[0] = counts.controls as u16;
+    numbers[1] = counts.readings as u16;
+    numbers[2] = counts.latches as u16;
+    numbers[3] = names.literal(c.output);
 }

@@ -1,4 +1,5 @@
 pub mod Alarms
+pub mod Kept
 pub mod Marks
 pub mod Members
 pub mod Visit
@@ -13,4 +14,4 @@ pub mod Tested
 pub mod Going
 pub mod Met
 pub mod Answer
-pub mod Gates
+pub mod Searching

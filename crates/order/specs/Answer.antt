@@ -1,13 +1,11 @@
 -- What is answered of gates (02, T-01): that they are in order, or the lowest that reaches itself. Assumes nothing.
-use Rattle.std.specs.Prelude.{ℕ, min, ◌/◌, cond, List, ◌++◌, ltb, length, drop}
+use Rattle.std.specs.Prelude.{ℕ, min, ◌/◌, cond, List, ◌++◌, Result, Ok, Err, ltb, length, drop}
 use Rattle.below.specs.Table.{table}
 use Rattle.order.specs.Placing.{order_of}
 use Rattle.order.specs.Circle.{lowest_circle}
-use Rattle.order.specs.declared.Placed.{Placed}
-use Rattle.order.specs.declared.Placed.TheVariants.{InOrder, Circle}
 
-unfoldable pub answer_of : List ℕ → ℕ → Placed
-answer_of uses n = cond (ltb (lowest_circle uses n) n) (Circle (lowest_circle uses n)) InOrder
+unfoldable pub answer_of : List ℕ → ℕ → Result (Unit {0}) ℕ
+answer_of uses n = cond (ltb (lowest_circle uses n) n) (Err (lowest_circle uses n)) (Ok tt)
 
 -- how many gates are spoken of: as many as all three lists have room for
 abbrev pub gates_in : (uses marks order : List ℕ) → ℕ

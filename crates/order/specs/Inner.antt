@@ -1,3 +1,4 @@
 pub mod Unseen
+pub mod Kept
 pub mod Visited
-pub mod Lent
+pub mod FitsMarked

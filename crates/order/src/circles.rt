@@ -1,33 +1,35 @@
 // The lowest gate that reaches itself (02, T-01, number 16): only looked for where the gates aren't in order.
-ghost use Rattle.std.specs.Prelude.{◌<◌, ◌≡◌, length};
-ghost use Rattle.order.specs.Circle.{lowest_circle, meets_itself};
-ghost use Rattle.order.specs.Inner.Lent.{Lent};
+ghost use Rattle.std.specs.Prelude.{◌<◌, ◌≡◌};
+ghost use Rattle.order.specs.Answer.{answer_of};
+ghost use Rattle.order.specs.Circle.{meets_itself};
+ghost use Rattle.order.specs.Inner.Kept.{Kept, gate_count};
 
-use crate::marks::{clear, seen};
-use crate::visits::{operand, visit};
+use crate::graph::Gates;
 
-pub(crate) fn lowest_circle(uses: &[u16], marks: &mut [u8], order: &mut [u16]) -> usize
-    requires { Lent uses.now marks.old order.old }
-    ensures { result ≡ lowest_circle uses.now (length marks.old) }
-{
-    let n = marks.len();
-    let mut gate = 0;
-    while gate < n {
-        if meets_itself(uses, marks, order, gate) {
-            return gate;
+impl Gates<'_> {
+    #[tactic(auto, using(crate::proofs::Laws::Searching::turns))]
+    pub(crate) fn no_circle(&mut self) -> Result<(), usize>
+        ensures kept { Kept self.old self.new }
+        ensures answer { result ≡ answer_of self.old.uses.now (gate_count self.old) }
+    {
+        for gate in 0..self.marks.len() {
+            if self.meets_itself(gate) {
+                return Err(gate);
+            }
         }
-        gate += 1;
+        Ok(())
     }
-    n
-}
 
-fn meets_itself(uses: &[u16], marks: &mut [u8], order: &mut [u16], gate: usize) -> bool
-    requires gate_in_bounds { gate < length marks.old }
-    requires lent { Lent uses.now marks.old order.old }
-    ensures { result ≡ meets_itself uses.now (length marks.old) gate }
-{
-    clear(marks);
-    let first = visit(uses, marks, order, operand(uses, 2 * gate), 0);
-    visit(uses, marks, order, operand(uses, 2 * gate + 1), first);
-    seen(marks, gate)
+    #[tactic(auto, using(crate::proofs::Laws::Marks::unseen_most))]
+    fn meets_itself(&mut self, gate: usize) -> bool
+        requires { gate < gate_count self.old }
+        ensures kept { Kept self.old self.new }
+        ensures answer { result ≡ meets_itself self.old.uses.now (gate_count self.old) gate }
+    {
+        self.clear();
+        let (first, second) = self.operands_of(gate);
+        let placed = self.visit(first, 0);
+        self.visit(second, placed);
+        self.seen(gate)
+    }
 }

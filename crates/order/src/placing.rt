@@ -1,21 +1,20 @@
 // All gates, visited in turn (02, T-01).
-ghost use Rattle.std.specs.Prelude.{◌≡◌, length};
+ghost use Rattle.std.specs.Prelude.{◌≡◌};
 ghost use Rattle.order.specs.Placing.{order_of};
-ghost use Rattle.order.specs.Inner.Lent.{Lent};
+ghost use Rattle.order.specs.Inner.Kept.{Kept, gate_count};
 
-use crate::marks::clear;
-use crate::visits::visit;
+use crate::graph::Gates;
 
-pub(crate) fn place(uses: &[u16], marks: &mut [u8], order: &mut [u16])
-    requires { Lent uses.now marks.old order.old }
-    ensures { order.new ≡ order_of uses.now (length marks.old) }
-{
-    clear(marks);
-    let n = marks.len();
-    let mut count = 0;
-    let mut gate = 0;
-    while gate < n {
-        count = visit(uses, marks, order, gate, count);
-        gate += 1;
+impl Gates<'_> {
+    #[tactic(auto, using(crate::proofs::Laws::Going::turns))]
+    pub(crate) fn place(&mut self)
+        ensures kept { Kept self.old self.new }
+        ensures placed { self.new.order.now ≡ order_of self.old.uses.now (gate_count self.old) }
+    {
+        self.clear();
+        let mut count = 0;
+        for gate in 0..self.marks.len() {
+            count = self.visit(gate, count);
+        }
     }
 }

@@ -1,39 +1,37 @@
 // The test of an order (02, T-01): gate by gate, with those in front marked.
-ghost use Rattle.std.specs.Prelude.{◌*◌, ◌≤◌, ◌≡◌, length};
+ghost use Rattle.std.specs.Prelude.{◌≡◌};
 ghost use Rattle.order.specs.Ordered.{is_ordered};
-ghost use Rattle.order.specs.Inner.Lent.{Lent, fits_marked};
+ghost use Rattle.order.specs.Inner.Kept.{Kept, gate_count};
+ghost use Rattle.order.specs.Inner.FitsMarked.{fits_marked};
 
-use crate::marks::{clear, seen};
-use crate::visits::operand;
+use crate::graph::Gates;
 
-pub(crate) fn in_order(uses: &[u16], marks: &mut [u8], order: &[u16]) -> bool
-    requires { Lent uses.now marks.old order.now }
-    ensures { result ≡ is_ordered uses.now (length marks.old) order.now }
-{
-    clear(marks);
-    let n = marks.len();
-    let mut k = 0;
-    while k < n {
-        let gate = operand(order, k);
-        if fits(uses, marks, gate) {
-            marks[gate] = 1;
-        } else {
+impl Gates<'_> {
+    #[tactic(auto, using(crate::proofs::Laws::Tested::turns))]
+    pub(crate) fn in_order(&mut self) -> bool
+        ensures kept { Kept self.old self.new }
+        ensures order { self.new.order.now ≡ self.old.order.now }
+        ensures answer { result ≡ is_ordered self.old.uses.now (gate_count self.old) self.old.order.now }
+    {
+        self.clear();
+        for k in 0..self.order.len() {
+            let gate = usize::from(self.order[k]);
+            if !self.fits(gate) {
+                return false;
+            }
+            self.marks[gate] = 1;
+        }
+        true
+    }
+
+    #[tactic(auto, using(crate::proofs::Laws::Marks::unmarked_below), unfolding(crate::specs::Inner::FitsMarked::fits_marked))]
+    fn fits(&self, gate: usize) -> bool
+        ensures { result ≡ fits_marked self.now.uses.now self.now.marks.now gate }
+    {
+        if self.seen(gate) {
             return false;
         }
-        k += 1;
-    }
-    true
-}
-
-fn fits(uses: &[u16], marks: &[u8], gate: usize) -> bool
-    requires { 2 * length marks.now ≤ length uses.now }
-    ensures { result ≡ fits_marked uses.now marks.now gate }
-{
-    if seen(marks, gate) {
-        false
-    } else if seen(marks, operand(uses, 2 * gate)) {
-        seen(marks, operand(uses, 2 * gate + 1))
-    } else {
-        false
+        let (first, second) = self.operands_of(gate);
+        self.seen(first) && self.seen(second)
     }
 }

@@ -2,6 +2,5 @@ pub mod Gap
 pub mod Gapped
 pub mod Head
 pub mod Part
-pub mod Turns
 pub mod PackedBit
 pub mod Laid

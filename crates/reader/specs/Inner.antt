@@ -1,11 +1,11 @@
 pub mod AllLines
 pub mod BodyAs
 pub mod CountedAs
+pub mod DefinedAs
 pub mod Definers
+pub mod Few
 pub mod LinesAs
-pub mod PlacedAs
+pub mod OrderedAs
 pub mod Rows
 pub mod SymbolsAs
-pub mod TextAs
-pub mod UsedAs
 pub mod ValueOf

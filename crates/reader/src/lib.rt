@@ -1,12 +1,12 @@
 // The reader of the text form (01, "The file" and "The numbers"): any list of bytes is met. What stands in a line has the crate `fields`,
-// what one line says the crate `lines`. `read` alone knows the limits of a circuit; what reads the lines goes by the lengths of what it is lent.
+// what one line says the crate `lines`.
 #![tactic(auto)]
 
-mod behind;
+mod before;
 mod body;
-mod circle;
-mod column;
-mod definers;
+mod columns;
+mod gates;
 mod late;
 pub mod read;
+mod rest;
 mod symbols;

@@ -1,56 +1,43 @@
 // Symbol lines and the comment (01, "The file", rules 5 and 6), by the counts of a header.
-ghost use Rattle.std.specs.Prelude.{◌≡◌, cond, set};
+ghost use Rattle.std.specs.Prelude.{◌≤◌, length};
 ghost use Rattle.lines.specs.Inner.Headed.{said};
-ghost use Rattle.reader.specs.Inner.SymbolsAs.{SymbolRoom, SymbolsAs};
+ghost use Rattle.reader.specs.Inner.SymbolsAs.{SymbolsAs};
 
-use crate::body::Reached;
-use circuit::Refusal;
-use fields::line::{Cursor, line_end};
-use lines::header::Header;
-use lines::symbol::{Symboled, symbol_line};
+use crate::rest::Rest;
+use below::filled;
+use circuit::{Circuit, Refusal};
+use lines::symbol::symbol_line;
 
-fn set_if(test: bool, marks: &mut [u8], i: usize)
-    ensures { marks.new ≡ cond test (set marks.old i 1) marks.old }
-{
-    if test {
-        if i < marks.len() {
-            marks[i] = 1;
-        }
-    }
-}
-
-// The symbol lines up to the comment or the end of the file. Marks what is named, and flags each input that is controllable.
-pub(crate) fn symbol_lines(
-    s: &[u8],
-    from: Cursor,
-    h: Header,
-    named: &mut [u8],
-    flags: &mut [u8],
-) -> Reached
-    requires { SymbolRoom s.now from (said h) named.old flags.old }
-    ensures { SymbolsAs (said h) s.now from flags.new result }
-{
-    let mut here = from;
-    while here.at < s.len() {
-        let at = here.at;
-        let end = line_end(s, at);
-        match symbol_line(&s[at..end], h, named) {
-            Symboled::Comment => {
-                return Reached::At(here);
-            }
-            Symboled::Bad => {
-                return Reached::Refused(Refusal {
-                    number: 8,
-                    place: here.line,
-                });
-            }
-            Symboled::Of(slot, position, flag) => {
-                set_if(true, named, slot);
-                set_if(flag, flags, position);
+impl Rest<'_> {
+    // Up to the comment or where the file ends: a flag for each input, 1 if it is controllable.
+    pub(crate) fn flags(&self, at: usize) -> Result<[u8; Circuit::INPUTS], Refusal>
+        requires { at ≤ length self.now.bytes.now }
+        ensures { SymbolsAs (said self.now.header) self.now.bytes.now at result }
+    {
+        // Marks and flags are bytes of 0 and 1: `lines::symbol` and `Circuit.controllable`, which are public, take them so.
+        let mut named: [u8; Circuit::NAMES] = filled(0);
+        let mut flags: [u8; Circuit::INPUTS] = filled(0);
+        let first = 2 + self.line_count();
+        for (k, line) in self.bytes[at..]
+            .split_inclusive(|b| *b == b'\n')
+            .enumerate()
+        {
+            match symbol_line(line, self.header, &named) {
+                Ok(None) => return Ok(flags),
+                Ok(Some(symbol)) => {
+                    named[symbol.slot] = 1;
+                    if symbol.controls {
+                        flags[symbol.position] = 1;
+                    }
+                }
+                Err(fault) => {
+                    return Err(Refusal {
+                        fault,
+                        place: first + k,
+                    });
+                }
             }
         }
-        here.at = end;
-        here.line += 1;
+        Ok(flags)
     }
-    Reached::At(here)
 }

@@ -1,5 +1,7 @@
 pub mod Record
+pub mod Kinds
 pub mod RecordAt
+pub mod CircuitRecord
 pub mod ReplyBytes
 pub mod PackedReplies
 pub mod ReplyTable

@@ -1,4 +1,6 @@
 pub mod Record
+pub mod Kinds
+pub mod Part
 pub mod RegionBits
 pub mod ReplyBytes
 pub mod PackedReplies

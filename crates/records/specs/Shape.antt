@@ -1,18 +1,19 @@
--- The code's answer for the shape of a certificate (01, "The certificate"): where the contents of its records start and end, and the
--- kind of the reply record. The first record's contents start behind its head. Assumes nothing.
-use Rattle.std.specs.Prelude.{◌+◌, length}
-use Rattle.std.proofs.Math.Option.{Option, none, some}
-use Rattle.records.specs.Record.{head_length}
+-- The code's answer for the shape of a certificate (01, "The certificate"): where the contents of its records lie, and the kind of the
+-- reply record. Assumes nothing.
+use Rattle.std.specs.Prelude.{Option, Some, None}
+use Rattle.std.proofs.Math.Option.{Option as Maybe, none, some}
+use Rattle.records.specs.Kinds.{stored_as}
+use Rattle.records.specs.RecordAt.{contents_at}
 use Rattle.records.specs.Tables.{Tables, replies, attacks}
-use Rattle.records.specs.declared.Shape.{Shape}
-use Rattle.records.specs.declared.Shape.TheVariants.{Replies, Attacks, Other}
+use Rattle.records.specs.declared.tables.Shape.{Shape}
+use Rattle.records.specs.declared.tables.Shape.TheVariants.{Replies, Attacks}
 
-unfoldable pub shape_of : Option Tables → Shape
-shape_of none = Other
+unfoldable pub shape_of : Maybe Tables → Option Shape
+shape_of none = None
 shape_of (some (replies circuit region kind table)) =
-    let circuit_end = head_length + length circuit in
-    let region_end = circuit_end + head_length + length region in
-    Replies circuit_end (circuit_end + head_length) region_end (region_end + head_length) (region_end + head_length + length table) kind
+    let first = contents_at 0 circuit in
+    let second = contents_at first.end region in
+    Some (Replies first second (contents_at second.end table) (stored_as kind))
 shape_of (some (attacks circuit table)) =
-    let circuit_end = head_length + length circuit in
-    Attacks circuit_end (circuit_end + head_length) (circuit_end + head_length + length table)
+    let first = contents_at 0 circuit in
+    Some (Attacks first (contents_at first.end table))

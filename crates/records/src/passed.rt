@@ -9,6 +9,14 @@ ghost use Rattle.records.specs.AttackTable.{stored_rank, stored_attack};
 
 use crate::stored;
 use crate::stored::{byte_reply, holds_state, stored_attack, stored_rank};
+use circuit::counts::Counts;
+
+// Where region and replies start.
+#[derive(Clone, Copy, Debug, PartialEq, Eq)]
+pub struct Starts {
+    pub region: usize,
+    pub replies: usize,
+}
 
 // Whether the stored region holds a state.
 pub fn region_bit(certificate: &[u8], region: usize, latches: usize, state: usize) -> bool
@@ -18,55 +26,42 @@ pub fn region_bit(certificate: &[u8], region: usize, latches: usize, state: usiz
 }
 
 // The reply to a reading at a state, by a byte table: the stored one inside the stored region, 0 outside.
+#[tactic(auto, unfolding(crate::specs::Passed::reply_in))]
 pub fn reply(
     certificate: &[u8],
-    region: usize,
-    replies: usize,
+    starts: Starts,
     latches: usize,
     readings: usize,
     state: usize,
     reading: usize,
 ) -> u8
-    ensures { result ≡ reply_in (drop region certificate.now) latches
-        (byte_reply (drop replies certificate.now) latches readings) state reading }
+    ensures { result ≡ reply_in (drop starts.region certificate.now) latches
+        (byte_reply (drop starts.replies certificate.now) latches readings) state reading }
 {
-    if !region_bit(certificate, region, latches, state) {
+    if !region_bit(certificate, starts.region, latches, state) {
         return 0;
     }
-    byte_reply(
-        tail(certificate, replies),
-        latches,
-        readings,
-        state,
-        reading,
-    )
+    let table = tail(certificate, starts.replies);
+    byte_reply(table, latches, readings, state, reading)
 }
 
 // The reply to a reading at a state, by a packed table: the stored one inside the stored region, 0 outside.
+#[tactic(auto, unfolding(crate::specs::Passed::reply_in))]
 pub fn packed_reply(
     certificate: &[u8],
-    region: usize,
-    replies: usize,
-    latches: usize,
-    readings: usize,
-    controls: usize,
+    starts: Starts,
+    counts: Counts,
     state: usize,
     reading: usize,
 ) -> u8
-    ensures { result ≡ reply_in (drop region certificate.now) latches
-        (packed_reply (drop replies certificate.now) (min latches 10) (min readings 5) (min controls 8)) state reading }
+    ensures { result ≡ reply_in (drop starts.region certificate.now) counts.latches
+        (packed_reply (drop starts.replies certificate.now) (min counts.latches 10) (min counts.readings 5) (min counts.controls 8))
+        state reading }
 {
-    if !region_bit(certificate, region, latches, state) {
+    if !region_bit(certificate, starts.region, counts.latches, state) {
         return 0;
     }
-    stored::packed_reply(
-        tail(certificate, replies),
-        latches,
-        readings,
-        controls,
-        state,
-        reading,
-    )
+    stored::packed_reply(tail(certificate, starts.replies), counts, state, reading)
 }
 
 // The stored rank of a state.
@@ -87,8 +82,5 @@ pub fn attack(certificate: &[u8], table: usize, latches: usize, state: usize) ->
 fn tail(certificate: &[u8], start: usize) -> &[u8]
     ensures { result.now ≡ drop start certificate.now }
 {
-    if certificate.len() < start {
-        return &certificate[..0];
-    }
-    &certificate[start..]
+    certificate.get(start..).unwrap_or(&[])
 }

@@ -7,12 +7,15 @@ ghost use Rattle.records.specs.ReplyBytes.{byte_reply};
 ghost use Rattle.records.specs.ReplyTable.{stored_reply};
 ghost use Rattle.records.specs.AttackTable.{stored_rank, stored_attack};
 
-use crate::{MOST_LATCHES, MOST_READINGS, PACKED};
-use below::fewer;
-use bits::bytes::{byte_at, byte_bit, low_bits};
+use crate::ReplyKind;
+use below::get_or;
+use bits::bytes::{byte_bit, low_bits};
 use bits::packed::packed_number;
+use circuit::Circuit;
+use circuit::counts::Counts;
 
 // Whether the region holds a state: a bit of its bytes.
+#[tactic(auto, unfolding(crate::specs::RegionBits::holds_state))]
 pub fn holds_state(bytes: &[u8], latches: usize, state: usize) -> bool
     ensures { result ≡ holds_state bytes.now latches state }
 {
@@ -20,13 +23,14 @@ pub fn holds_state(bytes: &[u8], latches: usize, state: usize) -> bool
 }
 
 // The reply to a reading at a state, in a byte table. An index above every length is never computed.
+#[tactic(auto, unfolding(crate::specs::ReplyBytes::byte_reply))]
 pub fn byte_reply(bytes: &[u8], latches: usize, readings: usize, state: usize, reading: usize) -> u8
     ensures { result ≡ byte_reply bytes.now latches readings state reading }
 {
     let s = low_bits(state, latches);
     let r = low_bits(reading, readings);
     if s == 0 {
-        return byte_at(bytes, r);
+        return get_or(bytes, r, 0);
     }
     if 63 <= readings {
         return 0;
@@ -35,58 +39,47 @@ pub fn byte_reply(bytes: &[u8], latches: usize, readings: usize, state: usize, r
     if bytes.len() / width < s {
         return 0;
     }
-    byte_at(bytes, s * width + r)
+    get_or(bytes, s * width + r, 0)
 }
 
 // The reply to a reading at a state, in a packed table. Counts above a circuit's limits count as those.
-pub fn packed_reply(
-    bytes: &[u8],
-    latches: usize,
-    readings: usize,
-    controls: usize,
-    state: usize,
-    reading: usize,
-) -> u8
-    ensures { result ≡ packed_reply bytes.now (min latches 10) (min readings 5) (min controls 8) state reading }
+#[tactic(auto, unfolding(crate::specs::PackedReplies::packed_reply))]
+pub fn packed_reply(bytes: &[u8], counts: Counts, state: usize, reading: usize) -> u8
+    ensures { result ≡ packed_reply bytes.now (min counts.latches 10) (min counts.readings 5) (min counts.controls 8) state reading }
 {
-    let l = fewer(latches, MOST_LATCHES);
-    let u = fewer(readings, MOST_READINGS);
-    let s = low_bits(state, l);
-    let r = low_bits(reading, u);
-    let width = 1usize << u;
-    packed_number(bytes, controls, s * width + r)
+    let s = low_bits(state, counts.latches.min(Circuit::LATCHES));
+    let readings = counts.readings.min(Circuit::UNCONTROLLABLE);
+    let r = low_bits(reading, readings);
+    packed_number(bytes, counts.controls, (s << readings) + r)
 }
 
 // The reply to a reading at a state, in a table of a kind. Counts above a circuit's limits count as those.
-pub fn stored_reply(
-    kind: u16,
-    bytes: &[u8],
-    latches: usize,
-    readings: usize,
-    controls: usize,
-    state: usize,
-    reading: usize,
-) -> u8
-    ensures { result ≡ stored_reply kind bytes.now (min latches 10) (min readings 5) (min controls 8) state reading }
+// The kind stays a number: the promise of this function holds of every number, as `krastopi_reply` of `capi` needs it.
+#[tactic(auto, unfolding(crate::specs::ReplyTable::stored_reply))]
+pub fn stored_reply(kind: u16, bytes: &[u8], counts: Counts, state: usize, reading: usize) -> u8
+    ensures { result ≡ stored_reply kind bytes.now (min counts.latches 10) (min counts.readings 5) (min counts.controls 8) state reading }
 {
-    if kind == PACKED {
-        return packed_reply(bytes, latches, readings, controls, state, reading);
+    if kind == ReplyKind::Packed.number() {
+        return packed_reply(bytes, counts, state, reading);
     }
-    let l = fewer(latches, MOST_LATCHES);
-    let u = fewer(readings, MOST_READINGS);
-    byte_reply(bytes, l, u, state, reading)
+    let latches = counts.latches.min(Circuit::LATCHES);
+    let readings = counts.readings.min(Circuit::UNCONTROLLABLE);
+    byte_reply(bytes, latches, readings, state, reading)
 }
 
 // The stored rank of a state.
+#[tactic(auto, unfolding(crate::specs::AttackTable::stored_rank, bits::specs::Digits::sum))]
 pub fn stored_rank(bytes: &[u8], latches: usize, state: usize) -> u16
     ensures { result ≡ stored_rank bytes.now latches state }
 {
-    let low = in_row(bytes, latches, state, 0);
-    let high = in_row(bytes, latches, state, 1);
-    (low as u16) + 256 * (high as u16)
+    u16::from_le_bytes([
+        in_row(bytes, latches, state, 0),
+        in_row(bytes, latches, state, 1),
+    ])
 }
 
 // The stored attack of a state.
+#[tactic(auto, unfolding(crate::specs::AttackTable::stored_attack))]
 pub fn stored_attack(bytes: &[u8], latches: usize, state: usize) -> u8
     ensures { result ≡ stored_attack bytes.now latches state }
 {
@@ -102,5 +95,5 @@ fn in_row(bytes: &[u8], latches: usize, state: usize, part: usize) -> u8
     if bytes.len() / 3 < s {
         return 0;
     }
-    byte_at(bytes, 3 * s + part)
+    get_or(bytes, 3 * s + part, 0)
 }

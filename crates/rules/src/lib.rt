@@ -13,28 +13,26 @@ ghost use Rattle.records.specs.RegionBits.{holds_state};
 use records::stored::{holds_state, stored_rank};
 
 // Whether the move in a lane gives error 0 and a next state in the stored region.
-pub fn lane_keeps_region<'a>(
-    net: &'a [u16],
-    words: &'a [u64],
+#[tactic(auto, unfolding(game::specs::NetGame::keeps_by))]
+pub fn lane_keeps_region(
+    net: &[u16],
+    words: &[u64],
     j: usize,
-    region: &'a [u8],
+    region: &[u8],
     latches: usize,
 ) -> bool
     ensures { result ≡ keeps_by (holds_state region.now latches) net.now (lits_in words.now j) }
 {
     let error = blocks::error_in(net, words, j);
-    if error {
-        false
-    } else {
-        holds_state(region, latches, blocks::next_in(net, words, j) as usize)
-    }
+    !error && holds_state(region, latches, usize::from(blocks::next_in(net, words, j)))
 }
 
 // Whether some lane of a block, from one to an end, gives error 0 and a next state that isn't of stored rank 1 to a bound.
-pub fn some_keeps<'a>(
-    net: &'a [u16],
-    words: &'a [u64],
-    table: &'a [u8],
+#[tactic(auto, unfolding(game::specs::NetGame::keeps_by))]
+pub fn some_keeps(
+    net: &[u16],
+    words: &[u64],
+    table: &[u8],
     latches: usize,
     bound: u16,
     from: usize,
@@ -42,46 +40,23 @@ pub fn some_keeps<'a>(
 ) -> bool
     ensures { result ≡ any (λ i. keeps_by (not_ranked (stored_rank table.now latches) bound) net.now (lits_in words.now (from + i))) (min end width - from) }
 {
-    let last = below::fewer(end, 64);
-    let mut j = from;
-    while j < last {
-        if lane_keeps(net, words, table, latches, bound, j) {
-            return true;
-        }
-        j += 1;
-    }
-    false
+    (from..end.min(64)).any(|j| {
+        !blocks::error_in(net, words, j)
+            && is_unranked(
+                table,
+                latches,
+                bound,
+                usize::from(blocks::next_in(net, words, j)),
+            )
+    })
 }
 
-fn lane_keeps<'a>(
-    net: &'a [u16],
-    words: &'a [u64],
-    table: &'a [u8],
-    latches: usize,
-    bound: u16,
-    j: usize,
-) -> bool
-    ensures { result ≡ keeps_by (not_ranked (stored_rank table.now latches) bound) net.now (lits_in words.now j) }
-{
-    if blocks::error_in(net, words, j) {
-        false
-    } else {
-        is_unranked(
-            table,
-            latches,
-            bound,
-            blocks::next_in(net, words, j) as usize,
-        )
-    }
-}
-
-// Whether a state isn't of stored rank 1 to a bound.
+// Whether a state isn't of stored rank 1 to a bound. The solver asks this of its own table by a function of its own, since the rules share
+// nothing with it.
+#[tactic(auto, unfolding(game::specs::Rank::not_ranked))]
 fn is_unranked(table: &[u8], latches: usize, bound: u16, state: usize) -> bool
     ensures { result ≡ not_ranked (stored_rank table.now latches) bound state }
 {
     let rank = stored_rank(table, latches, state);
-    if rank < 1 {
-        return true;
-    }
-    bound < rank
+    rank == 0 || bound < rank
 }

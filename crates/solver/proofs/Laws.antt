@@ -1,9 +1,7 @@
 pub mod RankTable
 pub mod Over
-pub mod Counts
 pub mod Solution
 pub mod Attacks
-pub mod Planes
 pub mod Held
 pub mod Search
 pub mod Moves

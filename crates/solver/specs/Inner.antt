@@ -3,6 +3,7 @@ pub mod SolvableNet
 pub mod Moves
 pub mod Planes
 pub mod Kept
+pub mod KeptOnce
 pub mod AttacksAfter
 pub mod Answers
-pub mod CountsAre
+pub mod Search

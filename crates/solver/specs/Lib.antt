@@ -1,5 +1,4 @@
 pub mod RankTable
 pub mod Over
 pub mod Solution
-pub mod Counts
 pub mod Inner

@@ -7,6 +7,7 @@ mod planes;
 mod replies;
 mod rooms;
 mod rounds;
+mod sizes;
 
 ghost use Rattle.std.specs.Prelude.{◌≡◌};
 ghost use Rattle.circuit.specs.Stored.{meant, solvable};
@@ -17,7 +18,7 @@ use circuit::Circuit;
 use rooms::solve_net;
 
 // What the solver answers: ranks and attacks of the states, and replies, at index s × 2^U + reading; 0 behind the last.
-#[derive(Clone, Copy)]
+#[derive(Clone, Copy, Debug, PartialEq, Eq)]
 pub struct Solution {
     pub ranks: [u16; Circuit::STATES],
     pub replies: [u8; Circuit::REPLIES],
@@ -28,8 +29,5 @@ pub struct Solution {
 pub fn solve(c: Circuit) -> Solution
     ensures { result ≡ solution_of (circuit_game (solvable (meant c))) }
 {
-    let made = net::make(c);
-    let length = made.length;
-    let numbers = made.numbers;
-    solve_net(&numbers[..length])
+    solve_net(net::make(c).as_slice())
 }

@@ -1,176 +1,170 @@
 // The least control that keeps, at a place (01, "The game"). Ranks are never taken away, so a control that failed fails in each later round,
 // and a search goes on behind the last one.
-ghost use Rattle.std.specs.Prelude.{◌+◌, ◌*◌, ◌^◌, ◌<◌, ◌≤◌, ◌≡◌};
-ghost use Rattle.below.specs.Least.{least};
+ghost use Rattle.std.specs.Prelude.{◌+◌, ◌*◌, ◌/◌, ◌^◌, ◌<◌, ◌≤◌, ◌≡◌, IfSome, length, unwrap_or};
+ghost use Rattle.below.specs.LeastFrom.{least_from};
+ghost use Rattle.game.specs.NetGame.{net_game};
 ghost use Rattle.game.specs.Rank.{defeats};
+ghost use Rattle.keeping.specs.KeptControls.{fails_in};
 ghost use Rattle.keeping.specs.RankList.{ranks_in};
+ghost use Rattle.keeping.specs.Unranked.{set_of};
+ghost use Rattle.net.specs.InOrder.{InOrder};
 ghost use Rattle.net.specs.Net.{net_controls, net_readings, net_latches};
+ghost use Rattle.solver.specs.Inner.Answers.{LeastBelow, MoveFrom};
 ghost use Rattle.solver.specs.Inner.Kept.{Kept, Behind};
-ghost use Rattle.solver.specs.Inner.Moves.{Small, places};
+ghost use Rattle.solver.specs.Inner.KeptOnce.{Kept-prop};
+ghost use Rattle.solver.specs.Inner.Moves.{place_keeps, places};
 ghost use Rattle.solver.specs.Inner.Planes.{AllHeld};
-ghost use Rattle.solver.specs.Inner.Answers.{MoveFrom, ControlAt, DefeatOf};
 
-use crate::planes::{ERROR, hold, number_at};
+use crate::planes::{Slot, hold};
+use crate::sizes::{controls, readings};
 use blocks::LITERALS;
-use circuit::counts::numbers;
-use keeping::lane::keeping_lane;
-use keeping::rank_list::{first_failed, still_keeps};
+use keeping::lane::Found;
+use keeping::rank_list::{KeptControl, Unranked};
 
-// A move, and the state that it leads to.
-#[derive(Clone, Copy)]
-pub(crate) struct Found {
-    pub number: usize,
-    pub lead: u16,
+// A search in one round: what keeps leads to one of the states that aren't of rank 1 to the round's number.
+#[derive(Drop)]
+pub(crate) struct Search<'a> {
+    pub(crate) net: &'a [u16],
+    pub(crate) set: Unranked<'a>,
+    pub(crate) words: &'a mut [u64; LITERALS],
+    pub(crate) kept: &'a mut [KeptControl],
+    pub(crate) slots: &'a mut [Slot],
+    ghost all_kept: { Kept net.now (set_of set) kept.now slots.now } by { Kept-prop net.now (set_of set) kept.now slots.now },
 }
 
-// The least reading that defeats, or as many as there are.
-pub(crate) fn least_defeat<'a>(
-    net: &'a [u16],
-    words: &mut [u64; LITERALS],
-    kept: &mut [u16],
-    planes: &mut [u64],
-    ranks: &'a [u16],
-    bound: u16,
-    state: u16,
-) -> usize
-    requires state_bound { state < 2 ^ net_latches net.now }
-    requires kept { Kept net.now (ranks_in ranks.now) bound kept.old planes.old }
-    ensures { DefeatOf net.now ranks.now bound state result kept.new planes.new }
-{
-    let n = readings(net);
-    let controls = controls(net);
-    let first = state as usize * n;
-    let end = first + n;
-    let mut place = first_failed(&kept[..2 * end], ranks, bound, first);
-    while place < end {
-        let control = look_on(net, words, kept, planes, ranks, bound, place);
-        if controls <= control {
-            return place - first;
+impl<'a> Search<'a> {
+    ghost use Rattle.solver.specs.Inner.Search.{Over, Same};
+
+    pub(crate) fn new(
+        net: &'a [u16],
+        set: Unranked<'a>,
+        words: &'a mut [u64; LITERALS],
+        kept: &'a mut [KeptControl],
+        slots: &'a mut [Slot],
+    ) -> Search<'a>
+        requires { Kept net.now (set_of set) kept.old slots.old }
+        ensures { Over result net.entry set.entry words.entry kept.entry slots.entry }
+    {
+        Search {
+            net,
+            set,
+            words,
+            kept,
+            slots,
         }
-        place = first_failed(&kept[..2 * end], ranks, bound, place + 1);
     }
-    n
+
+    // The least reading that defeats.
+    pub(crate) fn least_defeat(&mut self, state: usize) -> Option<usize>
+        requires { state < 2 ^ net_latches self.old.net.now }
+        ensures same { Same self.old self.new }
+        ensures reading { LeastBelow (defeats (net_game self.old.net.now) (ranks_in self.old.set.ranks.now) self.old.set.bound state)
+            (2 ^ net_readings self.old.net.now) result }
+    {
+        let n = readings(self.net);
+        let first = state * n;
+        let end = first + n;
+        let mut from = first;
+        // Kept as a loop by hand: the next place that failed is known only when the one before was looked on.
+        while let Some(place) = self.first_failed(from, end) {
+            if self.look_on(place).is_none() {
+                return Some(place - first);
+            }
+            from = place + 1;
+        }
+        None
+    }
+
+    // The first place from one on, below an end, whose kept control doesn't keep any more.
+    fn first_failed(&self, from: usize, end: usize) -> Option<usize>
+        requires { end ≤ length self.now.kept.now }
+        ensures place { unwrap_or result end ≡ least_from (fails_in self.now.kept.now (set_of self.now.set)) from end }
+        ensures within { IfSome result (λ place. place < end) }
+    {
+        self.set.first_failed(&self.kept[..end], from)
+    }
+
+    // The least control that keeps at a place: the one kept, if it still does, or one behind it.
+    pub(crate) fn least_kept(&mut self, place: usize) -> Option<usize>
+        requires { place < places self.old.net.now }
+        ensures same { Same self.old self.new }
+        ensures control { LeastBelow (place_keeps self.old.net.now (set_of self.old.set) place) (2 ^ net_controls self.old.net.now) result }
+    {
+        let kept = self.kept[place];
+        if self.set.still_keeps(kept) {
+            return Some(usize::from(kept.found) - 1);
+        }
+        self.look_on(place)
+    }
+
+    // Goes on behind the control kept, which doesn't keep any more, and keeps the one found.
+    fn look_on(&mut self, place: usize) -> Option<usize>
+        requires place_bound { place < places self.old.net.now }
+        requires behind { Behind self.old.net.now (set_of self.old.set) place self.old.kept.now }
+        ensures same { Same self.old self.new }
+        ensures control { LeastBelow (place_keeps self.old.net.now (set_of self.old.set) place) (2 ^ net_controls self.old.net.now) result }
+    {
+        let n = controls(self.net);
+        let first = place * n;
+        let from = first + usize::from(self.kept[place].found);
+        let found = self.keeping_from(from, first + n)?;
+        let control = found.number - first;
+        self.kept[place] = KeptControl {
+            found: control as u16 + 1,
+            lead: found.lead,
+        };
+        Some(control)
+    }
+
+    // The least move from a number on, below an end, that keeps, and where it leads.
+    fn keeping_from(&mut self, from: usize, end: usize) -> Option<Found>
+        requires from_le_end { from ≤ end }
+        requires end_bound { end ≤ 8388608 }
+        ensures same { Same self.old self.new }
+        ensures kept { self.new.kept.now ≡ self.old.kept.now }
+        ensures found { MoveFrom self.old.net.now (set_of self.old.set) from end result }
+    {
+        let mut from = from;
+        // Kept as a loop by hand: it steps to the ends of blocks, and a range of blocks has one more where nothing is left of the last.
+        while from < end {
+            let next = end.min(from / 64 * 64 + 64);
+            if let Some(found) = keeping_in(
+                self.net, self.set, self.words, self.slots, from, next,
+            ) {
+                return Some(found);
+            }
+            from = next;
+        }
+        None
+    }
 }
 
-// The least control that keeps at a place, or as many as there are: the one kept, if it still does, or one behind it.
-pub(crate) fn least_kept<'a>(
-    net: &'a [u16],
+// The least move from a number on, below an end in the same block, that keeps, and where it leads.
+fn keeping_in(
+    net: &[u16],
+    set: Unranked<'_>,
     words: &mut [u64; LITERALS],
-    kept: &mut [u16],
-    planes: &mut [u64],
-    ranks: &'a [u16],
-    bound: u16,
-    place: usize,
-) -> usize
-    requires place_bound { place < places net.now }
-    requires kept { Kept net.now (ranks_in ranks.now) bound kept.old planes.old }
-    ensures { ControlAt net.now ranks.now bound place result kept.new planes.new }
-{
-    let found = kept[2 * place];
-    let lead = kept[2 * place + 1];
-    if still_keeps(found, lead, ranks, bound) {
-        return found as usize - 1;
-    }
-    look_on(net, words, kept, planes, ranks, bound, place)
-}
-
-// Goes on behind the control kept, which doesn't keep any more, and keeps the one found.
-fn look_on<'a>(
-    net: &'a [u16],
-    words: &mut [u64; LITERALS],
-    kept: &mut [u16],
-    planes: &mut [u64],
-    ranks: &'a [u16],
-    bound: u16,
-    place: usize,
-) -> usize
-    requires place_bound { place < places net.now }
-    requires kept { Kept net.now (ranks_in ranks.now) bound kept.old planes.old }
-    requires behind { Behind net.now (ranks_in ranks.now) bound place kept.old }
-    ensures { ControlAt net.now ranks.now bound place result kept.new planes.new }
-{
-    let n = controls(net);
-    let first = place * n;
-    let from = first + kept[2 * place] as usize;
-    let found = keeping_from(net, words, planes, ranks, bound, from, first + n);
-    if first + n <= found.number {
-        return n;
-    }
-    let control = found.number - first;
-    kept[2 * place] = control as u16 + 1;
-    kept[2 * place + 1] = found.lead;
-    control
-}
-
-// The least move from a number on, below an end, that keeps, and where it leads; or the end.
-fn keeping_from<'a>(
-    net: &'a [u16],
-    words: &mut [u64; LITERALS],
-    planes: &mut [u64],
-    ranks: &'a [u16],
-    bound: u16,
+    slots: &mut [Slot],
     from: usize,
     end: usize,
-) -> Found
-    requires small { Small net.now }
-    requires all_held { AllHeld net.now planes.old }
-    requires from_le_end { from ≤ end }
+) -> Option<Found>
+    requires in_order { InOrder net.now }
+    requires all_held { AllHeld net.now slots.old }
+    requires some_slot { 0 < length slots.old }
+    requires some { from < end }
+    requires one_block { end ≤ from / 64 * 64 + 64 }
     requires end_bound { end ≤ 8388608 }
-    ensures { MoveFrom net.now ranks.now bound from end result.number result.lead planes.new }
+    ensures found { MoveFrom net.now (set_of set.entry) from end result }
+    ensures still_held { AllHeld net.now slots.new }
 {
-    let latches = latches(net);
-    let mut m = from;
-    while m < end {
-        let block = m / 64;
-        let at = hold(net, words, planes, block);
-        let last = below::fewer(64, end - block * 64);
-        let found = keeping_lane(
-            planes[at + ERROR],
-            &planes[at..at + latches],
-            ranks,
-            bound,
-            m % 64,
-            last,
-        );
-        m = block * 64 + found.lane;
-        if found.lane < last {
-            return Found {
-                number: m,
-                lead: found.lead,
-            };
-        }
-    }
-    Found {
-        number: end,
-        lead: 0,
-    }
-}
-
-// How many states, readings and controls there are.
-pub(crate) fn states(net: &[u16]) -> usize
-    requires { Small net.now }
-    ensures { result ≡ 2 ^ net_latches net.now }
-{
-    numbers(latches(net))
-}
-
-pub(crate) fn readings(net: &[u16]) -> usize
-    requires { Small net.now }
-    ensures { result ≡ 2 ^ net_readings net.now }
-{
-    numbers(number_at(net, 1) as usize)
-}
-
-pub(crate) fn controls(net: &[u16]) -> usize
-    requires { Small net.now }
-    ensures { result ≡ 2 ^ net_controls net.now }
-{
-    numbers(number_at(net, 0) as usize)
-}
-
-// How many latches a net has.
-fn latches(net: &[u16]) -> usize
-    ensures { result ≡ net_latches net.now }
-{
-    number_at(net, 2) as usize
+    let block = from / 64;
+    let first = block * 64;
+    let latches = net::counts::latches(net);
+    let i = hold(net, words, slots, block);
+    let slot = &slots[i];
+    let lane = set.keeping_lane(slot.error, &slot.next[..latches], from - first, end - first)?;
+    Some(Found {
+        number: first + lane.number,
+        lead: lane.lead,
+    })
 }

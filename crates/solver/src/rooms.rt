@@ -1,20 +1,20 @@
-// The room that a solve takes, by the size of the game: two numbers for each place, and planes for some blocks.
-ghost use Rattle.std.specs.Prelude.{◌*◌, ◌^◌, ◌≤◌, ◌≡◌};
-ghost use Rattle.below.specs.Table.{table};
+// The room that a solve takes, by the size of the game: a control kept for each place, and slots for the planes of some blocks.
+ghost use Rattle.std.specs.Prelude.{◌*◌, ◌^◌, ◌<◌, ◌≤◌, ◌≡◌};
 ghost use Rattle.circuit.specs.Limits.{base};
 ghost use Rattle.game.specs.NetGame.{net_game};
 ghost use Rattle.net.specs.InOrder.{InOrder};
 ghost use Rattle.solver.specs.Solution.{solution_of};
 ghost use Rattle.solver.specs.Inner.Moves.{Small, places};
-ghost use Rattle.solver.specs.Inner.Planes.{slot};
 ghost use Rattle.solver.specs.Inner.SolvableNet.{solvable_net};
 
 use crate::Solution;
-use crate::look::{controls, readings, states};
-use crate::planes::{SLOT, number_at};
+use crate::planes::Slot;
 use crate::rounds::solve_in;
+use crate::sizes::{controls, places};
 use circuit::Circuit;
 use circuit::counts::too_many;
+use keeping::rank_list::KeptControl;
+use net::counts;
 
 // Places and slots of a small game, and slots of a middling one; a large one has a slot for each place.
 const FEW_PLACES: usize = 2048;
@@ -23,84 +23,58 @@ const FEW: usize = 512;
 
 const SOME: usize = 4096;
 
-// The solution of a net, or of the empty one where it has too many inputs of a sort. It calls itself, so the compiler leaves each room in a
-// frame of its own: the pages of a frame are touched when it is entered.
+// How many places a game has at most.
+const ALL: usize = Circuit::REPLIES;
+
+// The net of no circuit: no input, latch or gate, and an output that is never 1.
+const EMPTY: [u16; 4] = [0; 4];
+
+// The solution of a net, or of the empty one where it has too many inputs of a sort.
 pub(crate) fn solve_net(net: &[u16]) -> Solution
     requires { InOrder net.now }
     ensures { result ≡ solution_of (net_game (solvable_net net.now)) }
 {
-    if too_many(number_at(net, 1) as usize, number_at(net, 0) as usize) {
-        return solve_net(&[0u16; 4]);
-    }
-    let n = states(net) * readings(net);
-    let slots = n * below::fewer(controls(net), 64) / 64;
+    let net = solvable(net);
+    let places = places(net);
+    let slots = places * controls(net).min(64) / 64;
     if SOME < slots {
-        return solve_large(net);
+        return solve_within::<ALL, ALL>(net);
     }
-    if FEW < slots {
-        return solve_middling(net);
+    if FEW < slots || FEW_PLACES < places {
+        return solve_within::<ALL, SOME>(net);
     }
-    if FEW_PLACES < n {
-        return solve_middling(net);
-    }
-    solve_small(net)
+    solve_within::<FEW_PLACES, FEW>(net)
 }
 
-fn solve_small(net: &[u16]) -> Solution
+fn solvable(net: &[u16]) -> &[u16]
+    requires { InOrder net.now }
+    ensures value { result.now ≡ solvable_net net.now }
+    ensures small { Small result.now }
+{
+    if too_many(counts::readings(net), counts::controls(net)) {
+        &EMPTY
+    } else {
+        net
+    }
+}
+
+// The solution of a net, in room for so many places and slots: nothing was looked at, and no block is held. Each room has a frame of its own,
+// since the pages of a frame are touched when it is entered.
+#[inline(never)]
+fn solve_within<const PLACES: usize, const SLOTS: usize>(net: &[u16]) -> Solution
     requires small { Small net.now }
-    requires net_bound { places net.now ≤ 2048 }
+    requires enough { places net.now ≤ PLACES }
+    requires some { 0 < SLOTS }
+    requires few_places { PLACES ≤ 2 ^ base.latches * 2 ^ base.uncontrollable }
+    requires few_slots { SLOTS ≤ 2 ^ base.latches * 2 ^ base.uncontrollable }
     ensures { result ≡ solution_of (net_game net.now) }
 {
-    let mut kept = small_kept();
-    let mut planes = small_planes();
-    solve_in(net, &mut kept, &mut planes)
-}
-
-fn solve_middling(net: &[u16]) -> Solution
-    requires { Small net.now }
-    ensures { result ≡ solution_of (net_game net.now) }
-{
-    let mut kept = full_kept();
-    let mut planes = middling_planes();
-    solve_in(net, &mut kept, &mut planes)
-}
-
-fn solve_large(net: &[u16]) -> Solution
-    requires { Small net.now }
-    ensures { result ≡ solution_of (net_game net.now) }
-{
-    let mut kept = full_kept();
-    let mut planes = large_planes();
-    solve_in(net, &mut kept, &mut planes)
-}
-
-// Nothing was looked at, and no block is held.
-fn small_kept() -> [u16; 2 * FEW_PLACES]
-    ensures { result ≡ table (λ i. 0) (2 * 2048) }
-{
-    [0u16; 2 * FEW_PLACES]
-}
-
-fn full_kept() -> [u16; 2 * Circuit::REPLIES]
-    ensures { result ≡ table (λ i. 0) (2 * (2 ^ base.latches * 2 ^ base.uncontrollable)) }
-{
-    [0u16; 2 * Circuit::REPLIES]
-}
-
-fn small_planes() -> [u64; FEW * SLOT]
-    ensures { result ≡ table (λ i. 0) (512 * slot) }
-{
-    [0u64; FEW * SLOT]
-}
-
-fn middling_planes() -> [u64; SOME * SLOT]
-    ensures { result ≡ table (λ i. 0) (4096 * slot) }
-{
-    [0u64; SOME * SLOT]
-}
-
-fn large_planes() -> [u64; Circuit::REPLIES * SLOT]
-    ensures { result ≡ table (λ i. 0) (32768 * slot) }
-{
-    [0u64; Circuit::REPLIES * SLOT]
+    // not `filled`: what a function answers is copied, and the largest room leaves no space for a copy
+    let mut kept = [KeptControl { found: 0, lead: 0 }; PLACES];
+    let mut slots = [Slot {
+        next: [0; Circuit::LATCHES],
+        error: 0,
+        mark: 0,
+    }; SLOTS];
+    solve_in(net, &mut kept, &mut slots)
 }

@@ -1,40 +1,57 @@
 // The rounds of the solver (01, "The game"): each is worked out from the ranks of the one before, kept whole.
-ghost use Rattle.std.specs.Prelude.{◌^◌, ◌<◌, ◌≤◌, not, ◌≡◌, eqb, length};
-ghost use Rattle.below.specs.Least.{any};
+ghost use Rattle.std.specs.Prelude.{ℕ, ◌*◌, ◌^◌, ◌<◌, ◌≤◌, Bool, ◌≡◌, length};
 ghost use Rattle.below.specs.Table.{table};
 ghost use Rattle.circuit.specs.Limits.{base};
+ghost use Rattle.game.specs.NetGame.{net_game};
+ghost use Rattle.game.specs.Rank.{not_ranked, round};
 ghost use Rattle.keeping.specs.RankList.{ranks_in};
 ghost use Rattle.net.specs.Net.{net_latches};
+ghost use Rattle.solver.specs.Inner.Answers.{Ended, replies_over};
+ghost use Rattle.solver.specs.Inner.AttacksAfter.{attack_after, attacks_after};
 ghost use Rattle.solver.specs.Inner.Kept.{Kept};
-ghost use Rattle.game.specs.NetGame.{net_game};
+ghost use Rattle.solver.specs.Inner.Search.{KeptIn, SameRoom};
+ghost use Rattle.solver.specs.RankTable.{round_table};
 ghost use Rattle.solver.specs.Solution.{solution_of};
-ghost use Rattle.solver.specs.Inner.Answers.{RankedIn, RoundOver, AllRounds};
 
 use crate::Solution;
-use crate::look::{least_defeat, readings, states};
-use crate::replies::{no_replies, put_replies};
+use crate::look::Search;
+use crate::planes::Slot;
+use crate::sizes::states;
+use below::filled;
 use blocks::LITERALS;
 use circuit::Circuit;
-use keeping::rank_list::rank_at;
+use keeping::rank_list::{KeptControl, Unranked, rank_at};
+
+// What goes on from round to round: what is kept of the places, and of blocks.
+#[derive(Drop)]
+struct Room<'a> {
+    net: &'a [u16],
+    words: [u64; LITERALS],
+    kept: &'a mut [KeptControl],
+    slots: &'a mut [Slot],
+}
+
+// The ranks after some rounds, and the attack of each state that has one.
+#[derive(Clone, Copy, Debug, PartialEq, Eq)]
+struct Ranked {
+    ranks: [u16; Circuit::STATES],
+    attacks: [u8; Circuit::STATES],
+}
 
 // The solution, where nothing was looked at before.
-pub(crate) fn solve_in(net: &[u16], kept: &mut [u16], planes: &mut [u64]) -> Solution
-    requires { Kept net.now (ranks_in (table (λ s. 0) (2 ^ base.latches))) 0 kept.old planes.old }
+pub(crate) fn solve_in(net: &[u16], kept: &mut [KeptControl], slots: &mut [Slot]) -> Solution
+    requires { (set : ℕ → Bool) → Kept net.now set kept.old slots.old }
     ensures { result ≡ solution_of (net_game net.now) }
 {
-    let mut words = no_words();
-    let mut attacks = no_attacks();
-    let ranks = rounds(net, &mut words, kept, planes, &mut attacks);
-    let mut replies = no_replies();
-    put_replies(
+    let mut room = Room {
         net,
-        &mut words,
+        words: filled(0),
         kept,
-        planes,
-        &ranks,
-        Circuit::STATES as u16,
-        &mut replies,
-    );
+        slots,
+    };
+    let Ranked { ranks, attacks } = room.rounds();
+    let mut replies = filled(0);
+    room.put_replies(ranks, &mut replies);
     Solution {
         ranks,
         replies,
@@ -42,127 +59,112 @@ pub(crate) fn solve_in(net: &[u16], kept: &mut [u16], planes: &mut [u64]) -> Sol
     }
 }
 
-// Rounds until one changes nothing: then none after it does. Answers the ranks, and leaves the attacks.
-fn rounds(
-    net: &[u16],
-    words: &mut [u64; LITERALS],
-    kept: &mut [u16],
-    planes: &mut [u64],
-    attacks: &mut [u8],
-) -> [u16; Circuit::STATES]
-    requires attacks_blank { attacks.old ≡ table (λ s. 0) (2 ^ base.latches) }
-    requires kept { Kept net.now (ranks_in (table (λ s. 0) (2 ^ base.latches))) 0 kept.old planes.old }
-    ensures { AllRounds net.now result attacks.new kept.new planes.new }
-{
-    let n = states(net);
-    let mut ranks = zeros();
-    let mut k = 0;
-    while k < n {
-        let after = round(net, words, kept, planes, ranks, k as u16, attacks);
-        let changed = changes(&ranks, &after, n);
-        if !changed {
-            return after;
+impl Room<'_> {
+    // Rounds until one changes nothing: then none after it does.
+    fn rounds(&mut self) -> Ranked
+        requires { (set : ℕ → Bool) → KeptIn self.old set }
+        ensures same { SameRoom self.old self.new }
+        ensures ended { Ended (net_game self.old.net.now) result.ranks result.attacks }
+        ensures kept_on { KeptIn self.new (not_ranked (ranks_in result.ranks) (2 ^ base.latches)) }
+    {
+        let mut ranks = filled(0);
+        let mut attacks = filled(0);
+        for k in 0..states(self.net) {
+            let after = self.round(ranks, k as u16, &mut attacks);
+            if after == ranks {
+                return Ranked {
+                    ranks: after,
+                    attacks,
+                };
+            }
+            ranks = after;
         }
-        ranks = after;
-        k += 1;
+        Ranked { ranks, attacks }
     }
-    ranks
-}
 
-fn no_words() -> [u64; LITERALS] {
-    [0u64; LITERALS]
-}
-
-fn zeros() -> [u16; Circuit::STATES]
-    ensures { result ≡ table (λ s. 0) (2 ^ base.latches) }
-{
-    [0u16; Circuit::STATES]
-}
-
-fn no_attacks() -> [u8; Circuit::STATES]
-    ensures { result ≡ table (λ s. 0) (2 ^ base.latches) }
-{
-    [0u8; Circuit::STATES]
-}
-
-// A round from the ranks of the one before; a state that gets a rank gets its attack.
-fn round(
-    net: &[u16],
-    words: &mut [u64; LITERALS],
-    kept: &mut [u16],
-    planes: &mut [u64],
-    ranks: [u16; Circuit::STATES],
-    k: u16,
-    attacks: &mut [u8],
-) -> [u16; Circuit::STATES]
-    requires k_bound { k ≤ 2 ^ base.latches }
-    requires attacks_len { length attacks.old ≡ 2 ^ base.latches }
-    requires kept { Kept net.now (ranks_in ranks) k kept.old planes.old }
-    ensures { RoundOver net.now ranks attacks.old k result attacks.new kept.new planes.new }
-{
-    let n = states(net);
-    let mut after = ranks;
-    let mut s = 0;
-    while s < n {
-        let given = ranked(net, words, kept, planes, &ranks, k, s as u16, attacks[s]);
-        after[s] = given.rank;
-        attacks[s] = given.attack;
-        s += 1;
+    // A round from the ranks of the one before; a state that gets a rank gets its attack.
+    fn round(
+        &mut self,
+        ranks: [u16; Circuit::STATES],
+        k: u16,
+        attacks: &mut [u8],
+    ) -> [u16; Circuit::STATES]
+        requires k_bound { k ≤ 2 ^ base.latches }
+        requires attacks_len { length attacks.old ≡ 2 ^ base.latches }
+        requires kept { KeptIn self.old (not_ranked (ranks_in ranks) k) }
+        ensures same { SameRoom self.old self.new }
+        ensures after { result ≡ round_table (net_game self.old.net.now) (2 ^ net_latches self.old.net.now) k ranks }
+        ensures attacks { attacks.new ≡ attacks_after (net_game self.old.net.now) (2 ^ net_latches self.old.net.now) k ranks attacks.old }
+        ensures kept_on { KeptIn self.new (not_ranked (ranks_in ranks) k) }
+    {
+        let mut after = ranks;
+        let mut search = Search::new(
+            self.net,
+            Unranked {
+                ranks: &ranks,
+                bound: k,
+            },
+            &mut self.words,
+            &mut *self.kept,
+            &mut *self.slots,
+        );
+        for state in 0..states(self.net) {
+            let given = search.ranked(state, attacks[state]);
+            after[state] = given.rank;
+            attacks[state] = given.attack;
+        }
+        after
     }
-    after
+
+    // Puts the replies, after the last round.
+    fn put_replies(&mut self, ranks: [u16; Circuit::STATES], replies: &mut [u8; Circuit::REPLIES])
+        requires kept { KeptIn self.old (not_ranked (ranks_in ranks) (2 ^ base.latches)) }
+        requires ranks_bound { (t : ℕ) → ranks_in ranks t ≤ 2 ^ base.latches }
+        requires blank { replies.old ≡ table (λ i. 0) (2 ^ base.latches * 2 ^ base.uncontrollable) }
+        ensures { replies.new ≡ replies_over self.old.net.now ranks }
+    {
+        let mut search = Search::new(
+            self.net,
+            Unranked {
+                ranks: &ranks,
+                bound: Circuit::STATES as u16,
+            },
+            &mut self.words,
+            &mut *self.kept,
+            &mut *self.slots,
+        );
+        search.put_replies(replies);
+    }
 }
 
 // What a state has after a round: its rank, and its attack where it has one.
-#[derive(Clone, Copy)]
+#[derive(Clone, Copy, Debug, PartialEq, Eq)]
 struct Given {
     rank: u16,
     attack: u8,
 }
 
-// The rank and the attack of a state after round k + 1.
-fn ranked<'a>(
-    net: &'a [u16],
-    words: &mut [u64; LITERALS],
-    kept: &mut [u16],
-    planes: &mut [u64],
-    ranks: &'a [u16],
-    k: u16,
-    state: u16,
-    attack: u8,
-) -> Given
-    requires k_bound { k ≤ 2 ^ base.latches }
-    requires state_bound { state < 2 ^ net_latches net.now }
-    requires kept { Kept net.now (ranks_in ranks.now) k kept.old planes.old }
-    ensures { RankedIn net.now ranks.now k state attack result.rank result.attack kept.new planes.new }
-{
-    let x = rank_at(ranks, state as usize);
-    if 0 < x {
-        return Given { rank: x, attack };
-    }
-    let n = readings(net);
-    let r = least_defeat(net, words, kept, planes, ranks, k, state);
-    if r < n {
-        Given {
-            rank: k + 1,
-            attack: r as u8,
-        }
-    } else {
-        Given { rank: 0, attack: 0 }
-    }
-}
+impl Search<'_> {
+    ghost use Rattle.solver.specs.Inner.Search.{Same};
 
-// Some state's rank differs.
-fn changes<'a>(ranks: &'a [u16], after: &'a [u16], states: usize) -> bool
-    requires states_in_bounds { states ≤ length ranks.now }
-    requires states_in_after { states ≤ length after.now }
-    ensures { result ≡ any (λ s. not (eqb (ranks_in ranks.now s) (ranks_in after.now s))) states }
-{
-    let mut s = 0;
-    while s < states {
-        if ranks[s] != after[s] {
-            return true;
+    // The rank and the attack of a state after the round.
+    fn ranked(&mut self, state: usize, attack: u8) -> Given
+        requires k_bound { self.old.set.bound ≤ 2 ^ base.latches }
+        requires state_bound { state < 2 ^ net_latches self.old.net.now }
+        ensures same { Same self.old self.new }
+        ensures rank { result.rank ≡ round (net_game self.old.net.now) self.old.set.bound (ranks_in self.old.set.ranks.now) state }
+        ensures attack { result.attack ≡ attack_after (net_game self.old.net.now) self.old.set.bound self.old.set.ranks.now attack state }
+    {
+        let rank = rank_at(self.set.ranks, state);
+        if 0 < rank {
+            return Given { rank, attack };
         }
-        s += 1;
+        match self.least_defeat(state) {
+            Some(reading) => Given {
+                rank: self.set.bound + 1,
+                attack: reading as u8,
+            },
+            None => Given { rank: 0, attack: 0 },
+        }
     }
-    false
 }

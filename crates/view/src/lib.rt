@@ -9,7 +9,8 @@ ghost use Rattle.records.specs.Passed.{reply_in};
 ghost use Rattle.records.specs.ReplyBytes.{byte_reply};
 ghost use Rattle.view.specs.View.{view_of};
 
-use records::passed::{packed_reply, region_bit, reply};
+use circuit::counts::Counts;
+use records::passed::{Starts, packed_reply, region_bit, reply};
 
 #[derive(Clone, Copy)]
 pub struct View<'a> {
@@ -41,15 +42,11 @@ impl<'a> View<'a> {
         ensures { result ≡ reply_in (drop self.entry.region self.entry.certificate.now) latches
             (byte_reply (drop self.entry.replies self.entry.certificate.now) latches readings) state reading }
     {
-        reply(
-            self.certificate,
-            self.region,
-            self.replies, // one byte each
-            latches,
-            readings,
-            state,
-            reading,
-        )
+        let starts = Starts {
+            region: self.region,
+            replies: self.replies, // one byte each
+        };
+        reply(self.certificate, starts, latches, readings, state, reading)
     }
 
     // The reply to a reading at a state, by a packed table: the stored one inside the stored region, 0 outside.
@@ -65,15 +62,15 @@ impl<'a> View<'a> {
             (packed_reply (drop self.entry.replies self.entry.certificate.now) (min latches 10) (min readings 5) (min controls 8))
             state reading }
     {
-        packed_reply(
-            self.certificate,
-            self.region,
-            self.replies,
+        let starts = Starts {
+            region: self.region,
+            replies: self.replies,
+        };
+        let counts = Counts {
             latches,
             readings,
             controls,
-            state,
-            reading,
-        )
+        };
+        packed_reply(self.certificate, starts, counts, state, reading)
     }
 }

@@ -1,11 +1,12 @@
-pub mod Turns
-pub mod Tables
+pub mod PutAt
+pub mod Records
+pub mod Rows
 pub mod Cells
+pub mod Solved
+pub mod Tables
 pub mod Length
 pub mod Certified
-pub mod Bounds
 pub mod InParts
-pub mod Ranked
 pub mod RulesKept
 pub mod Passes
 pub mod OwnCertificate

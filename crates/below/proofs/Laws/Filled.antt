@@ -49,9 +49,9 @@ module _ (f : ℕ → ℕ) (before : List ℕ) where
       ]
 
 -- the same number everywhere
-pub replicate_table : (n a : ℕ) → replicate n a ≡ table (λ s. a) n
-replicate_table n a = ext_get_or 0 (replicate n a) (table (λ s. a) n) (length-replicate n a ∙ sym (length_table (λ s. a) n))
-    (λ j h. get_or-replicate n j a 0 (within j h) ∙ sym (get_or_table (λ s. a) n j 0 (within j h)))
+pub replicate_table : {A : Type 0} (n : ℕ) (a : A) → replicate n a ≡ table (λ s. a) n
+replicate_table {A} n a = ext_get_or a (replicate n a) (table (λ s. a) n) (length-replicate n a ∙ sym (length_table (λ s. a) n))
+    (λ j h. get_or-replicate n j a a (within j h) ∙ sym (get_or_table (λ s. a) n j a (within j h)))
   where
     within : (j : ℕ) → j < length (replicate n a) → j < n
     within j h = omega (arith, length-replicate n a)

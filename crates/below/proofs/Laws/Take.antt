@@ -1,26 +1,12 @@
--- The front of a list: a count above its length counts as that length; and the front of a table. Assumes nothing.
+-- The front of a table. Assumes nothing.
 use Prim.Native.Nat.{ℕ, min, ◌<◌, ◌≤◌}
 use native.Mathlib.Omega.{arith}
-use native.Mathlib.Decide.{dec_lt}
-use mathlib.Core.List.{List}
-use mathlib.Core.Path.{◌≡◌, sym, ap, ◌∙◌}
+use mathlib.Core.Path.{◌≡◌, sym, ◌∙◌}
 use lib.ListN.{length, take, length-take}
-use lib.Seq.{take_all, get_or-take, ext_get_or}
+use lib.Seq.{get_or-take, ext_get_or}
 use Rattle.below.specs.Table.{table}
 use Rattle.below.proofs.Laws.Table.{length_table, get_or_table}
 
-module _ {ℓ} {A : Type ℓ} where
-  pub take_min : (n : ℕ) (l : List A) → take (min n (length l)) l ≡ take n l
-  take_min n l = elim (dec_lt n (length l)) [
-    | yes h ↦ small (omega arith)
-    | no h ↦ take_all (min n (length l)) l (omega arith)
-        ∙ sym (take_all n l (omega arith))
-  ]
-    where
-      small : min n (length l) ≡ n → take (min n (length l)) l ≡ take n l
-      small e = ap (λ (m : ℕ). take m l) e
-
--- the front of a table
 pub take_table : (f : ℕ → ℕ) (m n : ℕ) → n ≤ m → take n (table f m) ≡ table f n
 take_table f m n h = ext_get_or 0 (take n (table f m)) (table f n) (length-take n (table f m) ∙ long)
     (λ i l. get_or-take n (table f m) i 0 (within i l) ∙ get_or_table f m i 0 (omega (arith, within i l)) ∙ sym (get_or_table f n i 0 (within i l)))

@@ -1,15 +1,30 @@
 -- What holds of a bit of a number, at every width. Assumes nothing.
-use Prim.Native.Nat.{ℕ, zero, suc, ◌+◌, ◌*◌, ◌-◌, ◌/◌, ◌%◌, ◌^◌, ◌<◌, ◌≤◌, min}
+use Prim.Native.Nat.{ℕ, zero, suc, ◌+◌, ◌*◌, ◌/◌, ◌%◌, ◌^◌, ◌<◌, ◌≤◌}
+use native.Mathlib.Decide.{ℕ_discrete}
 use native.Mathlib.Omega.{arith}
-use native.Mathlib.Nat.{div-one, mul_comm, pow-suc, div-div-eq-div-mul, div-eq_of_lt, mod-eq_of_lt, pow-zero}
-use native.Mathlib.Nat.{not-suc-le-zero, le_of_suc-le-suc, mul-one, one-mul}
+use native.Mathlib.Nat.{div-one, pow-suc, div-eq_of_lt, pow-zero}
+use native.Mathlib.Nat.{not-suc-le-zero, le_of_suc-le-suc, mul-one}
 use lib.Dec.{eqb}
-use lib.Pow.{pow-lt}
-use lib.Bits.{bit_and, and_mask, and_step, and_zero_r}
+use lib.Bits.{bit_and}
+use Rattle.std.specs.Prelude.{bit_or}
+use Rattle.std.specs.Int.{bit_not}
+use Rattle.std.proofs.Common.{w8}
+use Rattle.std.proofs.lemmas.Nat.{and_le_l, or_lt}
+use Rattle.std.proofs.lemmas.Nat.Bits.{
+  bit_at_lowest,
+  bit_at-suc,
+  bit_at-lt,
+  shr_and_one,
+  same_from_bits_below,
+  bit_at_set_same,
+  bit_at_set_other,
+  bit_at_clear_same,
+  bit_at_clear_other,
+}
 use mathlib.Core.Bool.{Bool, true, false}
 use mathlib.Core.List.{List}
 use mathlib.Core.Logic.{◌≢◌}
-use mathlib.Core.Path.{◌≡◌, refl, sym, ap, ap₂, ◌∙◌}
+use mathlib.Core.Path.{◌≡◌, refl, sym, ap, ◌∙◌}
 use lib.ListN.{length, get_or}
 use Rattle.bits.specs.Bit.{bit, one_if, with_bit}
 use Rattle.bits.specs.Digits.{digits, sum, AllBelow}
@@ -17,20 +32,20 @@ use Rattle.bits.proofs.Laws.Digits.{get_or-digits, digits_sum, digits_mod_pow}
 
 pub bit_zero : (n : ℕ) → bit n 0 ≡ n % 2
 unfolding bit
-bit_zero n = ap (λ (m : ℕ). m % 2) (div-one n)
+bit_zero = bit_at_lowest
 
 pub bit_suc : (n k : ℕ) → bit n (suc k) ≡ bit (n / 2) k
 unfolding bit
-bit_suc n k = ap (λ (m : ℕ). m % 2) (ap (λ (m : ℕ). n / m) (pow-suc 2 k ∙ mul_comm (2 ^ k) 2) ∙ sym (div-div-eq-div-mul n 2 (2 ^ k)))
+bit_suc = bit_at-suc
 
 pub bit_below : (n k : ℕ) → bit n k < 2
 unfolding bit
-bit_below n k = omega arith
+bit_below = bit_at-lt
 
 -- bit k by a shift and a mask, as code takes it
 pub bit-by_mask : (n k : ℕ) → bit_and (n / 2 ^ k) 1 ≡ bit n k
 unfolding bit
-bit-by_mask n k = and_mask (n / 2 ^ k) 1
+bit-by_mask = shr_and_one
 
 -- bit k is digit k in base 2
 pub digit_is-bit : (w n k : ℕ) → k < w → get_or (digits 2 w n) k 0 ≡ bit n k
@@ -51,14 +66,8 @@ bit-sum bs k h l = sym (digit_is-bit (length bs) (sum 2 bs) k l) ∙ ap (λ (ds 
 
 -- two numbers of w bits with the same bits are the same
 pub bits_decide : (w n m : ℕ) → n < 2 ^ w → m < 2 ^ w → ((k : ℕ) → k < w → bit n k ≡ bit m k) → n ≡ m
-bits_decide zero n m h l e = omega arith
-bits_decide (suc w) n m h l e =
-    omega (
-      arith,
-      sym (bit_zero n) ∙ e 0 (omega arith) ∙ bit_zero m,
-      bits_decide w (n / 2) (m / 2) (omega (arith, pow-suc 2 w)) (omega (arith, pow-suc 2 w))
-          (λ k s. sym (bit_suc n k) ∙ e (suc k) (omega arith) ∙ bit_suc m k),
-    )
+unfolding bit
+bits_decide = same_from_bits_below
 
 pub bit-part : (n k : ℕ) → bit n k * 2 ^ k ≤ n
 bit-part n zero = rw (bit_zero, pow-zero) (omega arith)
@@ -109,38 +118,27 @@ with_bit_below n (suc k) (suc w) b h l =
     let below = with_bit_below (n / 2) k w b (omega (arith, pow-suc 2 w)) (le_of_suc-le-suc l) in
     rw with_bit_suc (omega (arith, pow-suc 2 w, below))
 
--- bit k alone, by a mask
-pub part-by_mask : (n k : ℕ) → bit_and n (2 ^ k) ≡ bit n k * 2 ^ k
-part-by_mask n zero = rw (bit_zero, mul-one) (and_step n 1 ∙ ap (λ (m : ℕ). m * 2 + min (n % 2) 1) (and_zero_r (n / 2)) ∙ low (n % 2) (omega arith))
-  where
-    low : (m : ℕ) → m < 2 → 0 * 2 + min m 1 ≡ m
-    low m h = omega arith
-part-by_mask n (suc k) =
-    and_step n (2 ^ suc k)
-    ∙ ap₂ (λ (a b : ℕ). bit_and (n / 2) a * 2 + min (n % 2) b) half even
-    ∙ rw (bit_suc, pow-suc) (omega (arith, part-by_mask (n / 2) k))
-  where
-    half : 2 ^ suc k / 2 ≡ 2 ^ k
-    half = omega (arith, pow-suc 2 k)
+-- a byte with the bits of another, but for bit k, is that byte with another bit k
+module _ (byte k : ℕ) (small : byte < 2 ^ 8) (low : k < 8) where
+  with_bit_by : (b : Bool) (r : ℕ) → r < 2 ^ 8 → bit r k ≡ one_if b → ((i : ℕ) → i < 8 → i ≢ k → bit r i ≡ bit byte i)
+      → r ≡ with_bit byte k b
+  with_bit_by b r fits here there = bits_decide 8 r (with_bit byte k b) fits (with_bit_below byte k 8 b small low) each
+    where
+      each : (i : ℕ) → i < 8 → bit r i ≡ bit (with_bit byte k b) i
+      each i h = elim (ℕ_discrete i k) [
+        | yes e ↦ rw e (here ∙ sym (bit_with_same byte k b))
+        | no d ↦ there i h d ∙ sym (bit_with_other byte k i b d)
+      ]
 
-    even : 2 ^ suc k % 2 ≡ 0
-    even = omega (arith, pow-suc 2 k)
+  -- as code puts it, by a mask
+  pub one_put : bit_or byte (1 * 2 ^ k % 2 ^ 8) ≡ with_bit byte k true
+  unfolding bit one_if
+  one_put = with_bit_by true _ (or_lt 8 byte (1 * 2 ^ k % 2 ^ 8) small (omega arith)) (bit_at_set_same w8 byte k low)
+      (λ i h d. bit_at_set_other w8 byte k low i d)
 
--- bit k of a byte put by its weight and a mask, as code does it
-module _ (byte k : ℕ) (low : k < 8) where
-  weight_is : 1 * 2 ^ k % 256 ≡ 2 ^ k
-  weight_is = rw one-mul (mod-eq_of_lt (pow-lt {i = k} {j = 8} low))
+  pub none_put : bit_and byte (bit_not w8 (1 * 2 ^ k % 2 ^ 8)) ≡ with_bit byte k false
+  unfolding bit one_if
+  none_put = with_bit_by false _ (omega (arith, and_le_l byte (bit_not w8 (1 * 2 ^ k % 2 ^ 8)))) (bit_at_clear_same w8 byte k low)
+      (λ i h d. bit_at_clear_other w8 byte k low i h d)
 
-  part-is : bit_and byte (1 * 2 ^ k % 256) ≡ bit byte k * 2 ^ k
-  part-is = ap (bit_and byte) weight_is ∙ part-by_mask byte k
-
-  pub mask_within : bit_and byte (1 * 2 ^ k % 256) ≤ byte
-  mask_within = omega (arith, part-is, bit-part byte k)
-
-  pub with_one : byte - bit_and byte (1 * 2 ^ k % 256) + 1 * 2 ^ k % 256 ≡ with_bit byte k true
-  unfolding with_bit one_if
-  with_one = omega (arith, part-is, weight_is)
-
-  pub with_none : byte - bit_and byte (1 * 2 ^ k % 256) ≡ with_bit byte k false
-  unfolding with_bit one_if
-  with_none = omega (arith, part-is)
+pub ruleset by_mask = (bit-by_mask)

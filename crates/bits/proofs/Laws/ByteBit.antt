@@ -45,3 +45,5 @@ byte_bit_with_other bytes i j b h = elim (ℕ_discrete (j / 8) (i / 8)) [ yes e 
 
     there : j / 8 ≡ i / 8 → bit_j (get_or (set bytes (i / 8) new) (j / 8) 0) ≡ bit_j (get_or bytes (j / 8) 0)
     there e = elim (dec_lt (i / 8) (length bytes)) [ yes l ↦ inside e l | no l ↦ stays (omega arith) ]
+
+pub ruleset past = (set_out)

@@ -63,11 +63,6 @@ get_or-digits b (suc w) n (suc k) h =
     get_or-digits b w (n / b) k (le_of_suc-le-suc h)
     ∙ ap (λ (m : ℕ). m % b) (div-div-eq-div-mul n b (b ^ k) ∙ ap (λ (m : ℕ). n / m) (mul_comm b (b ^ k) ∙ sym (pow-suc b k)))
 
-pub all_below_at : (b : ℕ) (ds : List ℕ) (i : ℕ) → AllBelow b ds → i < length ds → get_or ds i 0 < b
-all_below_at b [] i h l = absurd (not-suc-le-zero l)
-all_below_at b (d ∷ ds) zero h l = h.0
-all_below_at b (d ∷ ds) (suc i) h l = all_below_at b ds i h.1 (le_of_suc-le-suc l)
-
 pub all_below_of : (b : ℕ) (ds : List ℕ) → ((i : ℕ) → i < length ds → get_or ds i 0 < b) → AllBelow b ds
 all_below_of b [] h = tt
 all_below_of b (d ∷ ds) h = (h zero (omega arith), all_below_of b ds (λ i l. h (suc i) (omega arith)))

@@ -26,3 +26,5 @@ bytes_of_numbers n w = omega (arith, eights_and-rest n w)
 pub bit-by-place : (bytes : List ℕ) (w k j : ℕ) → bit (get_or bytes (k / 8 * w + (k % 8 * w + j) / 8) 0) ((k % 8 * w + j) % 8) ≡ byte_bit bytes (k * w + j)
 unfolding byte_bit
 bit-by-place bytes w k j = ap₂ (λ (a b : ℕ). bit (get_or bytes a 0) b) (omega (arith, eights_and-rest k w)) (omega (arith, eights_and-rest k w))
+
+pub ruleset places = (eights_within, rest_within, bit-by-place)

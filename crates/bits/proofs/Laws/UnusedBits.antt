@@ -1,14 +1,14 @@
 -- A search through the bits of a list of bytes from bit n on, which are unused. Assumes nothing.
-use Prim.Native.Nat.{ℕ, ◌+◌, ◌*◌, ◌<◌, ◌≤◌}
+use Prim.Native.Nat.{ℕ, ◌*◌, ◌<◌, ◌≤◌}
 use native.Mathlib.Decide.{dec_lt}
 use native.Mathlib.Omega.{arith}
-use mathlib.Core.Bool.{Bool, true, false, ◌&&◌}
+use mathlib.Core.Bool.{Bool, false, ◌&&◌}
 use mathlib.Core.List.{List}
-use mathlib.Core.Path.{◌≡◌, sym, ap, ap₂, ◌∙◌}
+use mathlib.Core.Path.{◌≡◌, sym, ap, ap₂}
 use borrow.Author.Tests.{le-leb, lt-leb}
 use lib.Dec.{eqb, leb}
 use lib.ListN.{length}
-use Rattle.below.proofs.Laws.Least.{any_of, none_any}
+use Rattle.below.proofs.Laws.Least.{none_any}
 use Rattle.bits.specs.BitBytes.{unused_bit}
 use Rattle.bits.specs.ByteBit.{byte_bit}
 
@@ -20,17 +20,6 @@ pub record Unused (bytes : List ℕ) (n i : ℕ) : Type 0 where
 module _ (bytes : List ℕ) (n i : ℕ) where
   pub unused_start : i ≡ n → Unused bytes n i
   unused_start e = record { from = omega arith; none = λ j h l. absurd (omega arith) }
-
-  pub unused_next : Unused bytes n i → eqb (byte_bit bytes i) 1 ≡ false → Unused bytes n (i + 1)
-  unused_next w e = record { from = omega (arith, w.from); none = λ j h l. elim (dec_lt j i) [ yes a ↦ w.none j h a | no a ↦ here j (omega arith) ] }
-    where
-      here : (j : ℕ) → j ≡ i → eqb (byte_bit bytes j) 1 ≡ false
-      here j q = ap (λ (m : ℕ). eqb (byte_bit bytes m) 1) q ∙ e
-
-  pub unused_found : Unused bytes n i → i < 8 * length bytes → eqb (byte_bit bytes i) 1 ≡ true → true ≡ unused_bit bytes n
-  unfolding unused_bit
-  unused_found w h e =
-      sym (any_of (λ j. leb n j && eqb (byte_bit bytes j) 1) (8 * length bytes) i h (ap₂ (λ (a b : Bool). a && b) (le-leb n i w.from) e))
 
   pub unused_end : Unused bytes n i → 8 * length bytes ≤ i → false ≡ unused_bit bytes n
   unfolding unused_bit

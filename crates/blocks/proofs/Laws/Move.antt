@@ -5,13 +5,15 @@ use mathlib.Core.Bool.{Bool, true}
 use mathlib.Core.Path.{◌≡◌, refl, sym, ap, ◌∙◌}
 use lib.Arith.{digits_div, digits_mod}
 use lib.Dec.{eqb}
+use lib.ListN.{get_or}
 use lib.Pow.{shr-shr}
 use borrow.Author.Tests.{eqb-true}
-use Rattle.below.specs.Least.{every}
+use Rattle.below.specs.Least.{every, any, least}
 use Rattle.below.proofs.Laws.Least.{every_at}
 use Rattle.bits.specs.Bit.{bit, odd}
 use Rattle.bits.proofs.Laws.Bit.{bit_mod}
 use Rattle.blocks.specs.Lane.{width, lane, move_in}
+use Rattle.blocks.specs.declared.moves.TheConstants.{OWN_BITS}
 
 bit-odd : (n k : ℕ) → odd (n / 2 ^ k) ≡ eqb (bit n k) 1
 unfolding odd bit
@@ -39,3 +41,7 @@ unfolding lane odd own_bits
 own_bits_lem word c n j e q h = ap (λ (m : ℕ). eqb m 1)
     (eqb-true (word / 2 ^ j % 2) (j / 2 ^ c % 2) (every_at (λ j. eqb (word / 2 ^ j % 2) (j / 2 ^ c % 2)) width j e h))
     ∙ ap (λ (m : ℕ). eqb (j / 2 ^ m % 2) 1) (sym q)
+
+pub own_word : (i j : ℕ) → i < 6 → j < width → lane (get_or OWN_BITS i 0) j ≡ odd (j / 2 ^ i)
+unfolding own_bits every any least
+own_word i j h l = own_bits_lem (get_or OWN_BITS i 0) i i j (every_at (λ c. own_bits (get_or OWN_BITS c 0) c) 6 i refl h) refl l

@@ -5,7 +5,7 @@ use mathlib.Core.Bool.{not}
 use mathlib.Core.List.{List}
 use mathlib.Core.Path.{◌≡◌, ap, ◌∙◌}
 use lib.ListN.{length, take, length-take}
-use Rattle.below.proofs.Laws.Take.{take_min}
+use Rattle.std.proofs.lemmas.List.{take_min}
 use Rattle.circuit.specs.Circuit.{Circuit, Input, inputs_that, latch_count, uncontrollable_count, controllable_count}
 use Rattle.circuit.specs.Limits.{base}
 use Rattle.circuit.specs.Stored.{lent, inputs_of}

@@ -1,33 +1,45 @@
 -- The circuit record by its place: behind the first head, as long as its contents. Assumes nothing.
-use Prim.Native.Nat.{ℕ, ◌-◌}
-use native.Mathlib.Omega.{arith}
-use mathlib.Core.Bool.{Bool, true, false, cond}
-use mathlib.Core.List.{List}
-use mathlib.Core.Path.{◌≡◌, sym, ap, ◌∙◌}
-use lib.Dec.{eqb}
-use lib.ListN.{length, take, drop, length-take, length-drop}
+use Rattle.std.proofs.Common.{ℕ, ◌-◌, Bool, true, false, cond, List, ◌≡◌, sym, ap, ◌∙◌, eqb, length, arith}
+use Rattle.std.specs.Prelude.{Some, None}
+use borrow.Author.Tests.{eq-eqb, ne_eqb}
+use Rattle.records.specs.Part.{bytes_of}
 use Rattle.records.specs.Record.{cut, split, circuit_kind}
-use Rattle.records.proofs.Laws.RecordAt.{Found}
+use Rattle.records.specs.RecordAt.{record_at}
+use Rattle.records.specs.declared.record.Record.{Record}
+use Rattle.records.specs.declared.record.Span.{Span}
+use Rattle.records.proofs.Laws.RecordAt.{Found, found_record, found_none}
 use Rattle.capi.specs.Plain.{circuit_part}
 use Rattle.capi.specs.declared.Part.{Part}
 
-module _ (bytes : List ℕ) (kind start end : ℕ) (found : Found bytes 0 kind start end) where
-  contents : List ℕ
-  contents = take (end - start) (drop start bytes)
+-- the part that is nothing
+pub nothing : (a : Part) → (a.start ≡ 0) × (a.bytes ≡ 0) → a ≡ circuit_part cut
+unfolding circuit_part
+nothing a e = λ x. record { start = e.0 x; bytes = e.1 x }
 
-  long : end - start ≡ length contents
-  unfolding contents
-  long = omega (arith, found.within, length-take (end - start) (drop start bytes), length-drop start bytes)
+pub no_part : (bytes : List ℕ) → None ≡ record_at 0 (split bytes) → circuit_part cut ≡ circuit_part (split bytes)
+no_part bytes e = sym (ap circuit_part (found_none bytes 0 e))
 
-  pub part-found : eqb kind circuit_kind ≡ true → ◌≡◌ {A = Part} (record { start = start; bytes = end - start }) (circuit_part (split bytes))
-  unfolding circuit_part contents
-  part-found e =
-      (λ x. record { start = found.begins x; bytes = long x })
-      ∙ sym (ap (λ (b : Bool). cond {A = Part} b (record { start = 6; bytes = length contents }) (record { start = 0; bytes = 0 })) e)
-      ∙ sym (ap circuit_part found.splits)
+module _ (bytes : List ℕ) (first : Record) (there : Some first ≡ record_at 0 (split bytes)) where
+  abbrev found : Found bytes 0 first
+  found = found_record bytes 0 first there
 
-  pub part-other : eqb kind circuit_kind ≡ false → circuit_part cut ≡ circuit_part (split bytes)
-  unfolding circuit_part contents
-  part-other e =
-      sym (ap (λ (b : Bool). cond {A = Part} b (record { start = 6; bytes = length contents }) (record { start = 0; bytes = 0 })) e)
-      ∙ sym (ap circuit_part found.splits)
+  -- by its kind
+  part : Bool → Part
+  part b = cond b (record { start = 6; bytes = length (bytes_of first.contents bytes) }) (record { start = 0; bytes = 0 })
+
+  by_kind : (b : Bool) → eqb first.kind circuit_kind ≡ b → part b ≡ circuit_part (split bytes)
+  unfolding part circuit_part
+  by_kind b e = sym (ap circuit_part found.splits ∙ ap part e)
+
+  pub part_found :
+      first.kind ≡ circuit_kind
+      → ◌≡◌ {A = Part} (record { start = first.contents.start; bytes = first.contents.end - first.contents.start }) (circuit_part (split bytes))
+  unfolding part
+  part_found e =
+      let long : first.contents.end - first.contents.start ≡ length (bytes_of first.contents bytes) =
+      omega (arith, ap (λ (s : Span). s.end) found.lies, found.begins) in
+      (λ x. record { start = found.begins x; bytes = long x }) ∙ by_kind true (eq-eqb first.kind circuit_kind e)
+
+  pub part_of_other : (first.kind ≡ circuit_kind → ⊥) → circuit_part cut ≡ circuit_part (split bytes)
+  unfolding part circuit_part
+  part_of_other d = by_kind false (ne_eqb first.kind circuit_kind d)

@@ -1,19 +1,16 @@
 -- The replies that are read by what a pass answers are those of the table, of either kind (01, "The certificate"; 02, T-07). Assumes nothing.
 use Prim.Native.Nat.{ℕ, min}
 use native.Mathlib.Omega.{arith}
-use mathlib.Core.Bool.{cond}
 use mathlib.Core.List.{List}
 use mathlib.Core.Logic.{◌⊎◌, inl, inr}
-use mathlib.Core.Path.{◌≡◌, sym, ap, ◌∙◌}
+use mathlib.Core.Path.{◌≡◌, sym, ◌∙◌}
 use borrow.Author.Tests.{eq-eqb, ne_eqb}
 use lib.ListN.{drop}
 use Rattle.checker.specs.Answer.{Starts, of_replies, answer_of}
 use Rattle.checker.proofs.Laws.ReadPassed.{passed_reads, passed_kind, bytes_read, packed_read}
 use Rattle.circuit.specs.Outcome.{taken}
 use Rattle.records.specs.PackedReplies.{packed_reply}
-use Rattle.records.specs.Passed.{reply_in}
 use Rattle.records.specs.Record.{reply_kind, packed_kind}
-use Rattle.records.specs.RegionBits.{holds_state}
 use Rattle.records.specs.ReplyBytes.{byte_reply}
 use Rattle.records.specs.ReplyTable.{stored_reply}
 use Rattle.capi.specs.Stored.{stored_of}
@@ -31,20 +28,6 @@ module _ (a : CheckAnswer) where
     by_bytes : (a.kind ≡ packed_kind → ⊥) → byte_reply table a.latches a.readings s r ≡ stored_of a table s r
     unfolding stored_of
     by_bytes d = rw (ne_eqb a.kind packed_kind d)
-
-  module _ (region table : List ℕ) (s r : ℕ) where
-    pub reply_packed :
-        a.kind ≡ packed_kind
-        → reply_in region a.latches (packed_reply table (min a.latches 10) (min a.readings 5) (min a.controls 8)) s r
-        ≡ reply_in region a.latches (stored_of a table) s r
-    unfolding reply_in
-    reply_packed e = ap (λ (k : ℕ). cond (holds_state region a.latches s) k 0) (by_packed table s r e)
-
-    pub reply_bytes_lem :
-        (a.kind ≡ packed_kind → ⊥)
-        → reply_in region a.latches (byte_reply table a.latches a.readings) s r ≡ reply_in region a.latches (stored_of a table) s r
-    unfolding reply_in
-    reply_bytes_lem d = ap (λ (k : ℕ). cond (holds_state region a.latches s) k 0) (by_bytes table s r d)
 
   -- the starts that the answer of a reply certificate tells
   abbrev pub replies_told : Starts

@@ -9,10 +9,10 @@ use lib.ListN.{length, take}
 use Rattle.checker.specs.Answer.{Starts, of_replies, of_attacks, answer_of}
 use Rattle.checker.proofs.Laws.Numbered.{check_numbered}
 use Rattle.checker.proofs.Laws.ReadPassed.{passed_kind}
-use Rattle.circuit.specs.Answer.{WrittenAs, written_outcome, count_of, buffer_after}
+use Rattle.std.specs.Prelude.{Ok}
+use Rattle.circuit.specs.Answer.{WrittenAs, outcome_of, count_of, buffer_after}
 use Rattle.circuit.specs.Circuit.{Circuit, latch_count, uncontrollable_count, controllable_count}
 use Rattle.circuit.specs.Outcome.{Outcome, taken, refused, ◌>>=◌}
-use Rattle.circuit.specs.declared.Written.TheVariants.{Bytes}
 use Rattle.file.specs.CircuitIn.{circuit_in}
 use Rattle.file.proofs.Laws.Numbered.{file_numbered, writer_numbered}
 use Rattle.game.specs.CircuitGame.{is_realizable}
@@ -175,7 +175,7 @@ module _ (file before : List ℕ) (a : PrintAnswer) (is : a ≡ print_answer (co
   pub zero_printed :
       (after : List ℕ) → after ≡ buffer_after (file_printed file (length before)) before → a.number ≡ 0
       → (c : Circuit) × (circuit_in file ≡ taken c) × (circuit_in (take a.bytes after) ≡ taken c)
-  unfolding print_answer written_outcome
+  unfolding print_answer outcome_of
   zero_printed after written zero = by (count_of (file_printed file (length before))) refl is
     where
       by :
@@ -183,9 +183,9 @@ module _ (file before : List ℕ) (a : PrintAnswer) (is : a ≡ print_answer (co
           → (c : Circuit) × (circuit_in file ≡ taken c) × (circuit_in (take a.bytes after) ≡ taken c)
       by (taken n) e f =
           let (c, reads) = counted_reads file (length before) n e in
-          let w : WrittenAs (file_printed file (length before)) before after (Bytes n) = record { answer = sym e; bytes = written } in
+          let w : WrittenAs (file_printed file (length before)) before after (Ok n) = record { answer = sym e; bytes = written } in
           let counted : a.bytes ≡ n = λ x. (f x).bytes in
-          (c, reads, ap (λ (m : ℕ). circuit_in (take m after)) counted ∙ print_reads_back file c reads before after (Bytes n) n w refl)
+          (c, reads, ap (λ (m : ℕ). circuit_in (take m after)) counted ∙ print_reads_back file c reads before after (Ok n) n w refl)
       by (refused n p) e f =
           let q : a.number ≡ n = λ x. (f x).number in
           let row = (count_refused_exactly file (length before) n p).0 e in

@@ -1,30 +1,20 @@
--- `capi::krastopi_step` meets its contract: the step of the circuit that the file means. Assumes nothing.
-use mathlib.Core.Path.{sym, ap, ◌∙◌}
+-- `capi::krastopi_step` meets its contract: the step is one of the circuit that the file means. Assumes nothing.
+use Rattle.std.proofs.Common.{rules, of_calls, ◌≡◌, ap, ◌∙◌}
+use Rattle.std.specs.Prelude.{Result, Err, MatchResult, IsOkAnd}
 use Rattle.circuit.specs.Circuit.{Circuit}
-use Rattle.circuit.specs.Outcome.{Outcome, taken, ◌>>=◌}
-use Rattle.file.proofs.Laws.Read.{Means, taken_means, refused_means}
+use Rattle.circuit.specs.Stored.{meant}
+use Rattle.circuit.specs.declared.numbers.Refusal.{Refusal}
 use Rattle.step.specs.Step.{step}
 use Rattle.step.specs.declared.Stepped.{Stepped}
 use Rattle.capi.specs.Plain.{step_answer}
 use Rattle.capi.specs.Stepped.{file_stepped}
+use Rattle.capi.proofs.Laws.Meant.{made_means}
 use Rattle.capi.proofs.krastopi_step.Goals as goal
 
-pub returns-in-Refused : goal.returns-in-Refused
+pub returns : goal.returns
 unfolding file_stepped
-returns-in-Refused c =
+returns c =
     let a = c.args in
-    let r = c.read-read in
-    c.step_refused.ensures
-    ∙ sym (ap (λ (o : Outcome Circuit). step_answer (o >>= λ x. taken (step x a.state a.reading a.control)))
-    (refused_means a.file.now r.result r.ensures _ c.in-Refused.is))
-
-pub returns-in-Taken : goal.returns-in-Taken
-unfolding file_stepped
-returns-in-Taken c =
-    let a = c.args in
-    let r = c.read-read in
-    let m : Means a.file.now r.result = taken_means a.file.now r.result r.ensures c.in-Taken.is in
-    c.stepped.ensures
-    ∙ ap (λ (s : Stepped). step_answer (taken s)) c.step.ensures
-    ∙ ap (λ (x : Circuit). step_answer (taken (step x a.state a.reading a.control))) m.meant_is
-    ∙ sym (ap (λ (o : Outcome Circuit). step_answer (o >>= λ x. taken (step x a.state a.reading a.control))) m.read)
+    let made : MatchResult c.read.result (λ v. IsOkAnd c.map.result (λ (s : Stepped). s ≡ step (meant v) a.state a.reading a.control))
+    (λ (e : Refusal). ◌≡◌ {A = Result Stepped Refusal} c.map.result (Err e)) = search (rules, of_calls) in
+    c.into.ensures ∙ ap step_answer (made_means (λ (x : Circuit). step x a.state a.reading a.control) a.file.now _ _ c.read.ensures made)

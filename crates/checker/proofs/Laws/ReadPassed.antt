@@ -22,7 +22,7 @@ use Rattle.game.specs.CircuitGame.{circuit_game, is_realizable}
 use Rattle.game.specs.Game.{Game}
 use Rattle.game.specs.Play.{RepliesHold, Strategy, ErrsWithin}
 use Rattle.records.specs.AttackTable.{attack_length, stored_rank, stored_attack}
-use Rattle.records.specs.CircuitRecord.{circuit_contents, circuit_record}
+use Rattle.records.specs.CircuitRecord.{circuit_record}
 use Rattle.records.specs.PackedReplies.{packed_reply}
 use Rattle.records.specs.Passed.{reply_in}
 use Rattle.records.specs.Record.{reply_kind, packed_kind, head_length}
@@ -31,12 +31,13 @@ use Rattle.records.specs.ReplyBytes.{byte_reply}
 use Rattle.records.specs.ReplyTable.{table_length, stored_reply, unused_reply_bit}
 use Rattle.records.specs.Shape.{shape_of}
 use Rattle.records.specs.Tables.{accepted_kinds, Tables, replies, attacks}
-use Rattle.records.specs.Inner.Part.{part}
+use Rattle.records.specs.Part.{part}
+use Rattle.records.proofs.Laws.CircuitRecord.{record_is_part}
 use Rattle.records.proofs.Laws.Parts.{reply-parts, attack-parts}
 use Rattle.records.proofs.Laws.Passed.{reply-inside, region_in_front, stored_in_front, ranks_in_front, attacks_in_front}
 use Rattle.records.proofs.Laws.ReplyTable.{stored_packed, stored_byte}
 use Rattle.records.proofs.Laws.Shape.{kinds_are}
-use Rattle.records.proofs.Laws.Tables.{tables_begin}
+use Rattle.records.proofs.Laws.Tables.{kind_taken}
 use Rattle.checker.specs.Answer.{Starts, of_replies, of_attacks, starts_of, answer_of}
 use Rattle.checker.specs.Check.{check_of}
 use Rattle.checker.specs.Rules.{bad_reply_tables, bad_attack_table}
@@ -117,12 +118,10 @@ module _ (file certificate : List ℕ) (c : Circuit) (read : circuit_in file ≡
 
   -- the certificate's circuit record is the file, byte by byte
   carries_file : (starts : Starts) → answer_of file certificate ≡ taken starts → circuit_record certificate ≡ file
-  unfolding circuit_record circuit_contents
   carries_file starts e =
       let t = took starts e in
       let p = pass_is file certificate t.tables t.checks in
-      let (rest, first) = tables_begin accepted_kinds certificate t.tables p.tables in
-      ap circuit_contents first ∙ p.same
+      record_is_part accepted_kinds certificate t.tables p.tables ∙ p.same
 
   -- the tables of a reply certificate that passes are the fronts of what is behind their starts
   pub record RepliesTook (region table kind L U C : ℕ) : Type 0 where
@@ -150,7 +149,7 @@ module _ (file certificate : List ℕ) (c : Circuit) (read : circuit_in file ≡
           let begins : head_length + length circuit + head_length ≡ region = cc in
           let starts : head_length + length circuit + head_length + length states + head_length ≡ table = cc in
           let p = pass_is file certificate (replies circuit states kind bytes) f in
-          let there = reply-parts accepted_kinds certificate _ _ _ _ _ _ (sym (ap shape_of p.tables)) in
+          let there = reply-parts certificate _ _ _ _ (sym (ap shape_of p.tables)) in
           let (states_are_lem, bytes-are) = same_replies _ _ _ _ _ _ _ _ (sym p.tables ∙ there.tables) in
           record {
             circuit_bytes = circuit;
@@ -158,7 +157,7 @@ module _ (file certificate : List ℕ) (c : Circuit) (read : circuit_in file ≡
             table_bytes = bytes;
             checks = f;
             fine = passes_for file certificate (replies circuit states kind bytes) c f read;
-            accepted = there.taken;
+            accepted = kind_taken accepted_kinds certificate circuit states kind bytes p.tables;
             latches = cc;
             readings = cc;
             controls = cc;
@@ -191,7 +190,7 @@ module _ (file certificate : List ℕ) (c : Circuit) (read : circuit_in file ≡
       by (attacks circuit bytes) f g =
           let starts : head_length + length circuit + head_length ≡ table = cc in
           let p = pass_is file certificate (attacks circuit bytes) f in
-          let there = attack-parts accepted_kinds certificate _ _ _ (sym (ap shape_of p.tables)) in
+          let there = attack-parts certificate _ _ (sym (ap shape_of p.tables)) in
           let bytes-are = same_attacks _ _ _ _ (sym p.tables ∙ there.tables) in
           record {
             circuit_bytes = circuit;

@@ -1,100 +1,122 @@
--- The check by a certificate's shape, as the code takes it: the tables are parts of the certificate. Assumes nothing.
+-- The check by a certificate's shape, as the code takes it: 11, 12, and what the judging of the tables comes to. Assumes nothing.
 use Prim.Native.Nat.{ℕ, ◌+◌}
 use native.Mathlib.Omega.{arith}
-use mathlib.Core.Bool.{true, false}
+use mathlib.Core.Bool.{true, false, Bool, not, true≢false}
 use mathlib.Core.List.{List}
-use mathlib.Core.Option.{none, some}
-use mathlib.Core.Path.{◌≡◌, sym, ap, ◌∙◌}
+use mathlib.Core.Option.{some}
+use mathlib.Core.Path.{◌≡◌, refl, sym, ap, ◌∙◌, subst, subst₂}
+use borrow.Author.Tests.{not-true, not-false}
 use lib.ListN.{length}
+use Rattle.std.specs.Str.{bytes_eq}
+use Rattle.std.proofs.lemmas.Slice.Eq.{bytes_eq-Decides}
+use Rattle.std.specs.Prelude.{Some, None}
 use Rattle.bits.specs.Bytes.{same_bytes}
+use Rattle.bits.proofs.Laws.Bytes.{same_bytes_equal}
+use Rattle.bits.proofs.Laws.SameBytes.{equal_same_bytes}
 use Rattle.circuit.specs.Circuit.{Circuit}
-use Rattle.circuit.specs.Outcome.{Outcome, taken, refused, ◌>>◌}
-use Rattle.net.specs.Net.{net_latches, net_readings, net_controls}
+use Rattle.circuit.specs.Outcome.{Outcome, taken, refused, ◌>>=◌, ◌>>◌}
+use Rattle.records.specs.CircuitRecord.{circuit_record}
+use Rattle.records.specs.Kinds.{reply_kind_number}
+use Rattle.records.specs.Part.{bytes_of}
 use Rattle.records.specs.Record.{head_length}
-use Rattle.records.specs.Tables.{accepted_kinds, Tables, replies, attacks, circuit_part, tables_of}
-use Rattle.records.specs.Inner.Part.{part}
-use Rattle.records.proofs.Laws.Parts.{ReplyParts, AttackParts}
-use Rattle.records.proofs.Laws.Shape.{length_part}
+use Rattle.records.specs.Shape.{shape_of}
+use Rattle.records.specs.Tables.{accepted_kinds, Tables, circuit_part, tables_of}
+use Rattle.records.specs.declared.kinds.ReplyKind.{ReplyKind}
+use Rattle.records.specs.declared.record.Span.{Span}
+use Rattle.records.specs.declared.tables.Shape.{Shape}
+use Rattle.records.specs.declared.tables.Shape.TheVariants.{Replies as ReplyShape, Attacks as AttackShape}
+use Rattle.records.proofs.Laws.CircuitRecord.{record_is_part}
+use Rattle.records.proofs.Laws.Parts.{no_shape, reply-parts, attack-parts}
 use Rattle.checker.specs.Answer.{Starts, of_replies, of_attacks, starts_of, answer_of}
 use Rattle.checker.specs.Check.{tables_checked}
 use Rattle.checker.specs.Numbers.{bad_shape, other_circuit}
 use Rattle.checker.specs.Inner.FileNet.{FileNet}
 use Rattle.checker.specs.Inner.TablesAs.{RepliesAs, AttacksAs}
+use Rattle.checker.specs.declared.sized.SizedNet.{SizedNet}
 use Rattle.checker.proofs.Laws.Counted.{net_latches_are, net_readings_are, net_controls_are}
 use Rattle.checker.proofs.Laws.JudgedBy.{tables_then}
 use Rattle.checker.proofs.Laws.Stages.{misshapen_refused, other_refused, same_goes_on, answer_told}
 
-module _ (file net certificate : List ℕ) (given : FileNet file net) where
+-- what is told after the judging
+then_told : (o : Outcome Tables) (s : Starts) → ((o >> taken (tt {0})) >>= λ u. taken s) ≡ (o >> taken s)
+then_told (taken t) s = refl
+then_told (refused n p) s = refl
+
+module _ (file certificate : List ℕ) (net : SizedNet) (given : FileNet file net.numbers.now) where
   abbrev c : Circuit
   c = given.circuit
 
-  pub misshapen : tables_of accepted_kinds certificate ≡ none → refused bad_shape 0 ≡ answer_of file certificate
-  misshapen e = sym (answer_told file certificate c given.read (refused bad_shape 0) (misshapen_refused file certificate c given.read e))
+  pub misshapen : None ≡ shape_of (tables_of accepted_kinds certificate) → refused bad_shape 0 ≡ answer_of file certificate
+  misshapen e = sym (answer_told file certificate c given.read (refused bad_shape 0) (misshapen_refused file certificate c given.read (no_shape certificate e)))
 
   module _ (t : Tables) (shape : tables_of accepted_kinds certificate ≡ some t) where
-    other : same_bytes (circuit_part t) file ≡ false → refused other_circuit 0 ≡ answer_of file certificate
-    other f =
-        sym (answer_told file certificate c given.read (refused other_circuit 0) (other_refused file certificate c given.read t shape f))
+    part_is : circuit_record certificate ≡ circuit_part t
+    part_is = record_is_part accepted_kinds certificate t shape
+
+    other : (circuit_record certificate ≡ file → ⊥) → refused other_circuit 0 ≡ answer_of file certificate
+    other d =
+        sym (answer_told file certificate c given.read (refused other_circuit 0)
+        (other_refused file certificate c given.read t shape (by (same_bytes (circuit_part t) file) refl)))
+      where
+        by : (b : Bool) → same_bytes (circuit_part t) file ≡ b → same_bytes (circuit_part t) file ≡ false
+        by true e = absurd (d (part_is ∙ same_bytes_equal _ _ e))
+        by false e = e
 
     -- the tables are judged, and where they start is told
-    same : same_bytes (circuit_part t) file ≡ true → (starts : Starts) → starts ≡ starts_of c t → (tables_checked c t >> taken starts) ≡ answer_of file
-        certificate
-    same f starts e =
-        ap (λ (u : Starts). tables_checked c t >> taken u) e ∙ sym (tables_then (λ u. taken (starts_of c u)) c t)
-        ∙ sym (answer_told file certificate c given.read (tables_checked c t) (same_goes_on file certificate c given.read t shape f))
+    told : circuit_record certificate ≡ file → (o : Outcome (Unit {0})) → o ≡ (tables_checked c t >> taken tt)
+        → (o >>= λ u. taken (starts_of c t)) ≡ answer_of file certificate
+    told same o e =
+        ap (λ (p : Outcome (Unit {0})). p >>= λ u. taken (starts_of c t)) e ∙ then_told (tables_checked c t) (starts_of c t)
+        ∙ sym (tables_then (λ u. taken (starts_of c u)) c t)
+        ∙ sym (answer_told file certificate c given.read (tables_checked c t)
+        (same_goes_on file certificate c given.read t shape (equal_same_bytes (circuit_part t) file (sym part_is ∙ same))))
 
-  module _ (circuit_end region region_end table table_end kind : ℕ)
-      (parts : ReplyParts accepted_kinds certificate circuit_end region region_end table table_end kind) where
-    pub replies_of_other : same_bytes (part head_length circuit_end certificate) file ≡ false → refused other_circuit 0 ≡ answer_of file certificate
-    unfolding circuit_part
-    replies_of_other f = other _ parts.tables f
+  -- the test of the code
+  pub same_record : (r : Bool) → r ≡ not (bytes_eq (circuit_record certificate) file) → r ≡ false → circuit_record certificate ≡ file
+  same_record r e f = (bytes_eq-Decides (circuit_record certificate) file).0 (not-false _ (sym e ∙ f))
 
-    abbrev circuit_bytes : List ℕ
-    circuit_bytes = part head_length circuit_end certificate
+  pub other_record : (r : Bool) → r ≡ not (bytes_eq (circuit_record certificate) file) → r ≡ true → circuit_record certificate ≡ file → ⊥
+  other_record r e f g =
+      true≢false (sym ((bytes_eq-Decides (circuit_record certificate) file).1 g) ∙ not-true _ (sym e ∙ f))
 
-    abbrev region_bytes : List ℕ
-    region_bytes = part region region_end certificate
+  -- a shape has tables
+  pub differs : (s : Shape) → Some s ≡ shape_of (tables_of accepted_kinds certificate) → (circuit_record certificate ≡ file → ⊥) → refused other_circuit 0
+      ≡ answer_of file certificate
+  differs (ReplyShape circuit region table kind) e d = other _ (reply-parts certificate circuit region table kind e).tables d
+  differs (AttackShape circuit table) e d = other _ (attack-parts certificate circuit table e).tables d
 
-    abbrev table_bytes : List ℕ
-    table_bytes = part table table_end certificate
-
-    starts_are :
-        of_replies region table kind (net_latches net) (net_readings net) (net_controls net)
-        ≡ starts_of c (replies circuit_bytes region_bytes kind table_bytes)
+  module _ (same : circuit_record certificate ≡ file) (circuit table : Span) where
+    pub replies_told :
+        (region : Span) (kind : ReplyKind) → Some (ReplyShape circuit region table kind) ≡ shape_of (tables_of accepted_kinds certificate)
+        → (held rows : List ℕ) → held ≡ bytes_of region certificate → rows ≡ bytes_of table certificate
+        → (o : Outcome (Unit {0})) → RepliesAs net.numbers.now held (reply_kind_number kind) rows o
+        → (o >>= λ u. taken (of_replies region.start table.start (reply_kind_number kind) net.counts.latches net.counts.readings net.counts.controls))
+        ≡ answer_of file certificate
     unfolding starts_of
-    starts_are =
-        let one = length_part head_length circuit_end certificate parts.circuit_part.inside in
-        let two = length_part region region_end certificate parts.region_part.inside in
-        let first : region ≡ head_length + length circuit_bytes + head_length = omega (arith, parts.region_at, parts.circuit_part) in
-        let second : table ≡ head_length + length circuit_bytes + head_length + length region_bytes + head_length =
-        omega (arith, parts.region_at, parts.table_at, parts.circuit_part, parts.region_part) in
-        λ i. of_replies (first i) (second i) kind (net_latches_are c net given.is i) (net_readings_are c net given.is i)
-        (net_controls_are c net given.is i)
+    replies_told region kind e held rows h r o judged =
+        let parts = reply-parts certificate circuit region table kind e in
+        let ends : circuit.end ≡ head_length + length (bytes_of circuit certificate) = ap (λ (s : Span). s.end) parts.circuit_at in
+        let begins : region.start ≡ circuit.end + head_length = ap (λ (s : Span). s.start) parts.region_at in
+        let behind : region.end ≡ circuit.end + head_length + length (bytes_of region certificate) = ap (λ (s : Span). s.end) parts.region_at in
+        let starts : table.start ≡ region.end + head_length = ap (λ (s : Span). s.start) parts.table_at in
+        let first : region.start ≡ head_length + length (bytes_of circuit certificate) + head_length = omega arith in
+        let second : table.start ≡ head_length + length (bytes_of circuit certificate) + head_length + length (bytes_of region certificate) + head_length =
+        omega arith in
+        (λ i. o >>= λ u. taken (of_replies (first i) (second i) (reply_kind_number kind) ((net.latches ∙ net_latches_are c net.numbers.now given.is) i)
+        ((net.readings ∙ net_readings_are c net.numbers.now given.is) i) ((net.controls ∙ net_controls_are c net.numbers.now given.is) i)))
+        ∙ told _ parts.tables same o
+        (subst₂ (λ (l m : List ℕ). RepliesAs net.numbers.now l (reply_kind_number kind) m o) h r judged c given.is (bytes_of circuit certificate))
 
-    pub replies_of_same :
-        same_bytes circuit_bytes file ≡ true → (answer : Outcome Starts) → RepliesAs net region_bytes kind table_bytes region table answer
-        → answer ≡ answer_of file certificate
-    unfolding circuit_part
-    replies_of_same f answer judged = judged c given.is circuit_bytes ∙ same _ parts.tables f _ starts_are
-
-  module _ (circuit_end table table_end : ℕ) (parts : AttackParts accepted_kinds certificate circuit_end table table_end) where
-    pub attacks_of_other : same_bytes (part head_length circuit_end certificate) file ≡ false → refused other_circuit 0 ≡ answer_of file certificate
-    unfolding circuit_part
-    attacks_of_other f = other _ parts.tables f
-
-    attack-starts_are :
-        of_attacks table (net_latches net) (net_readings net)
-        ≡ starts_of c (attacks (part head_length circuit_end certificate) (part table table_end certificate))
+    pub attacks_told :
+        Some (AttackShape circuit table) ≡ shape_of (tables_of accepted_kinds certificate) → (rows : List ℕ) → rows ≡ bytes_of table certificate
+        → (o : Outcome (Unit {0})) → AttacksAs net.numbers.now rows o
+        → (o >>= λ u. taken (of_attacks table.start net.counts.latches net.counts.readings)) ≡ answer_of file certificate
     unfolding starts_of
-    attack-starts_are =
-        let one = length_part head_length circuit_end certificate parts.circuit_part.inside in
-        let first : table ≡ head_length + length (part head_length circuit_end certificate) + head_length =
-        omega (arith, parts.table_at, parts.circuit_part) in
-        λ i. of_attacks (first i) (net_latches_are c net given.is i) (net_readings_are c net given.is i)
-
-    pub attacks_of_same :
-        same_bytes (part head_length circuit_end certificate) file ≡ true → (answer : Outcome Starts)
-        → AttacksAs net (part table table_end certificate) table answer → answer ≡ answer_of file certificate
-    unfolding circuit_part
-    attacks_of_same f answer judged =
-        judged c given.is (part head_length circuit_end certificate) ∙ same _ parts.tables f _ attack-starts_are
+    attacks_told e rows r o judged =
+        let parts = attack-parts certificate circuit table e in
+        let ends : circuit.end ≡ head_length + length (bytes_of circuit certificate) = ap (λ (s : Span). s.end) parts.circuit_at in
+        let starts : table.start ≡ circuit.end + head_length = ap (λ (s : Span). s.start) parts.table_at in
+        let first : table.start ≡ head_length + length (bytes_of circuit certificate) + head_length = omega arith in
+        (λ i. o >>= λ u. taken (of_attacks (first i) ((net.latches ∙ net_latches_are c net.numbers.now given.is) i)
+        ((net.readings ∙ net_readings_are c net.numbers.now given.is) i)))
+        ∙ told _ parts.tables same o (subst (λ (l : List ℕ). AttacksAs net.numbers.now l o) r judged c given.is (bytes_of circuit certificate))

@@ -1,98 +1,78 @@
 -- `checker::check_net` meets its contract: the shape names the tables as parts of the certificate, and they are judged. Assumes nothing.
-use mathlib.Core.Path.{sym, ◌∙◌}
-use Rattle.records.specs.Tables.{accepted_kinds}
-use Rattle.records.proofs.Laws.Parts.{ReplyParts, AttackParts, reply-parts, attack-parts, shape_other}
-use Rattle.checker.specs.Answer.{checked_outcome}
-use Rattle.checker.proofs.Laws.Shaped.{misshapen, replies_of_other, replies_of_same, attacks_of_other, attacks_of_same}
+use Rattle.std.proofs.Common.{◌≡◌, ◌∙◌, sym, ap, not, Err, Some, Option, List, ℕ}
+use Rattle.std.proofs.lemmas.Result.{err_from_is_err_and}
+use Rattle.std.specs.Option.{ok_or}
+use Rattle.std.specs.Str.{bytes_eq}
+use Rattle.circuit.specs.Answer.{outcome_of}
+use Rattle.records.specs.CircuitRecord.{circuit_record}
+use Rattle.records.specs.Shape.{shape_of}
+use Rattle.records.specs.Tables.{accepted_kinds, tables_of}
+use Rattle.records.specs.declared.tables.Shape.{Shape}
+use Rattle.checker.specs.Answer.{checked_outcome, starts_in}
+use Rattle.checker.proofs.Laws.Answer.{refused_at_zero}
+use Rattle.checker.proofs.Laws.Shaped.{misshapen, same_record, other_record, differs, replies_told, attacks_told}
 use Rattle.checker.proofs.check_net.Goals as goal
-use Rattle.checker.proofs.check_net.Goals.{In-Attacks, In-Replies}
+use Rattle.checker.proofs.check_net.Goals.{In_ok-shape, After-ne, Else-ne}
 
--- the parts of the certificate, by its shape
-reply_lies : (w : goal.In-Replies) → ReplyParts accepted_kinds w.args.certificate.now
-    w.in-Replies.circuit_end w.in-Replies.region w.in-Replies.region_end w.in-Replies.table w.in-Replies.table_end w.in-Replies.kind
-reply_lies w = reply-parts accepted_kinds _ _ _ _ _ _ _ w.in-Replies.ensures
+pub returns-in_err-shape : goal.returns-in_err-shape
+unfolding checked_outcome outcome_of
+returns-in_err-shape c =
+    let p = err_from_is_err_and c.from_residual.result c.from_residual.ensures.1 in
+    let none = c.in_err-shape.ensures.ok_part in
+    let given : Err c.in_err-shape.field-0.0 ≡ Err c.refused.result =
+    c.in_err-shape.ensures.value ∙ ap (λ (o : Option Shape). ok_or o c.refused.result) none in
+    let same : c.in_err-shape.field-0.0 ≡ c.refused.result = cc in
+    rw (p.1, p.2)
+    (refused_at_zero _ _ (same ∙ c.refused.ensures)
+    ∙ misshapen c.args.file.now c.args.certificate.now c.args.net c.requires (sym none ∙ c.shape_of.ensures))
 
-attack_lies : (w : goal.In-Attacks) → AttackParts accepted_kinds w.args.certificate.now
-    w.in-Attacks.circuit_end w.in-Attacks.table w.in-Attacks.table_end
-attack_lies w = attack-parts accepted_kinds _ _ _ _ w.in-Attacks.ensures
+-- the shape, and whether the circuit record is the file
+shaped : (c : goal.In_ok-shape) → Some c.in_ok-shape.shape ≡ shape_of (tables_of accepted_kinds c.args.certificate.now)
+shaped c = sym c.in_ok-shape.ensures.ok_part ∙ c.shape_of.ensures
 
-pub slice_bounds-same_bytes-count : goal.slice_bounds-same_bytes-count
-slice_bounds-same_bytes-count c = (reply_lies (goal.at.slice_bounds-same_bytes-count c).In-Replies).circuit_part.ordered
+differ : (c : goal.After-ne) → c.ne.result ≡ not (bytes_eq (circuit_record c.args.certificate.now) c.args.file.now)
+differ c = c.ne.ensures ∙ ap (λ (l : List ℕ). not (bytes_eq l c.args.file.now)) c.circuit_record.ensures
 
-pub slice_bounds-same_bytes-start : goal.slice_bounds-same_bytes-start
-slice_bounds-same_bytes-start c = (reply_lies (goal.at.slice_bounds-same_bytes-start c).In-Replies).circuit_part.ordered
+pub returns-then-ne : goal.returns-then-ne
+unfolding checked_outcome outcome_of
+returns-then-ne c =
+    let other = other_record c.args.file.now c.args.certificate.now c.args.net c.requires _ (differ (goal.at.returns-then-ne c).After-ne) c.if-ne.true in
+    refused_at_zero _ _ c.refused-then-ne.ensures
+    ∙ differs c.args.file.now c.args.certificate.now c.args.net c.requires c.in_ok-shape.shape (shaped (goal.at.returns-then-ne c).In_ok-shape) other
 
-pub slice_bounds-same_bytes-end : goal.slice_bounds-same_bytes-end
-slice_bounds-same_bytes-end c = (reply_lies (goal.at.slice_bounds-same_bytes-end c).In-Replies).circuit_part.inside
+same : (c : goal.Else-ne) → circuit_record c.args.certificate.now ≡ c.args.file.now
+same c = same_record c.args.file.now c.args.certificate.now c.args.net c.requires _ (differ (goal.at.Else-ne c).After-ne) c.if-ne.false
 
-pub returns-then-not-same_bytes : goal.returns-then-not-same_bytes
-unfolding checked_outcome
-returns-then-not-same_bytes c =
-    replies_of_other c.args.file.now c.args.net.now c.args.certificate.now c.requires _ _ _ _ _ _
-    (reply_lies (goal.at.returns-then-not-same_bytes c).In-Replies)
-    (sym c.same_bytes.ensures ∙ c.if-not-same_bytes.true)
+pub returns-in_err-check-in-Replies : goal.returns-in_err-check-in-Replies
+unfolding checked_outcome outcome_of
+returns-in_err-check-in-Replies c =
+    let w = goal.at.returns-in_err-check-in-Replies c in
+    let p = err_from_is_err_and c.from_residual-in_err-check-in-Replies.result c.from_residual-in_err-check-in-Replies.ensures.1 in
+    rw (p.1, p.2)
+    (replies_told c.args.file.now c.args.certificate.now c.args.net c.requires (same w.Else-ne) c.in-Replies.circuit c.in-Replies.table
+    c.in-Replies.region c.in-Replies.kind (ap Some (sym c.in-Replies.is) ∙ shaped w.In_ok-shape) _ _ c.bytes_of.ensures c.bytes_of-in-Replies.ensures _
+    c.in_err-check-in-Replies.ensures)
 
-pub slice_bounds-check_replies-count : goal.slice_bounds-check_replies-count
-slice_bounds-check_replies-count c = (reply_lies (goal.at.slice_bounds-check_replies-count c).In-Replies).region_part.ordered
+pub returns-in_ok-check-in-Replies : goal.returns-in_ok-check-in-Replies
+unfolding checked_outcome outcome_of starts_in
+returns-in_ok-check-in-Replies c =
+    let w = goal.at.returns-in_ok-check-in-Replies c in
+    replies_told c.args.file.now c.args.certificate.now c.args.net c.requires (same w.Else-ne) c.in-Replies.circuit c.in-Replies.table
+    c.in-Replies.region c.in-Replies.kind (ap Some (sym c.in-Replies.is) ∙ shaped w.In_ok-shape) _ _ c.bytes_of.ensures c.bytes_of-in-Replies.ensures _
+    c.in_ok-check-in-Replies.ensures
 
-pub slice_bounds-check_replies-start : goal.slice_bounds-check_replies-start
-slice_bounds-check_replies-start c = (reply_lies (goal.at.slice_bounds-check_replies-start c).In-Replies).region_part.ordered
+pub returns-in_err-check-in-Attacks : goal.returns-in_err-check-in-Attacks
+unfolding checked_outcome outcome_of
+returns-in_err-check-in-Attacks c =
+    let w = goal.at.returns-in_err-check-in-Attacks c in
+    let p = err_from_is_err_and c.from_residual-in_err-check-in-Attacks.result c.from_residual-in_err-check-in-Attacks.ensures.1 in
+    rw (p.1, p.2)
+    (attacks_told c.args.file.now c.args.certificate.now c.args.net c.requires (same w.Else-ne) c.in-Attacks.circuit c.in-Attacks.table
+    (ap Some (sym c.in-Attacks.is) ∙ shaped w.In_ok-shape) _ c.bytes_of-in-Attacks.ensures _ c.in_err-check-in-Attacks.ensures)
 
-pub slice_bounds-check_replies-end : goal.slice_bounds-check_replies-end
-slice_bounds-check_replies-end c = (reply_lies (goal.at.slice_bounds-check_replies-end c).In-Replies).region_part.inside
-
-pub slice_bounds-check_replies-count-in-Replies : goal.slice_bounds-check_replies-count-in-Replies
-slice_bounds-check_replies-count-in-Replies c = (reply_lies (goal.at.slice_bounds-check_replies-count-in-Replies c).In-Replies).table_part.ordered
-
-pub check_replies-requires : goal.check_replies-requires
-check_replies-requires c = c.requires.sized
-
-pub slice_bounds-same_bytes-count-in-Attacks : goal.slice_bounds-same_bytes-count-in-Attacks
-slice_bounds-same_bytes-count-in-Attacks c = (attack_lies (goal.at.slice_bounds-same_bytes-count-in-Attacks c).In-Attacks).circuit_part.ordered
-
-pub returns-then-not-same_bytes-2 : goal.returns-then-not-same_bytes-2
-unfolding checked_outcome
-returns-then-not-same_bytes-2 c =
-    attacks_of_other c.args.file.now c.args.net.now c.args.certificate.now c.requires _ _ _ (attack_lies (goal.at.returns-then-not-same_bytes-2 c).In-Attacks)
-    (sym c.same_bytes-in-Attacks.ensures ∙ c.if-not-same_bytes-2.true)
-
-pub slice_bounds-check_attacks-count : goal.slice_bounds-check_attacks-count
-slice_bounds-check_attacks-count c = (attack_lies (goal.at.slice_bounds-check_attacks-count c).In-Attacks).table_part.ordered
-
-pub slice_bounds-check_attacks-start : goal.slice_bounds-check_attacks-start
-slice_bounds-check_attacks-start c = (attack_lies (goal.at.slice_bounds-check_attacks-start c).In-Attacks).table_part.ordered
-
-pub slice_bounds-check_attacks-end : goal.slice_bounds-check_attacks-end
-slice_bounds-check_attacks-end c = (attack_lies (goal.at.slice_bounds-check_attacks-end c).In-Attacks).table_part.inside
-
-pub check_attacks-requires : goal.check_attacks-requires
-check_attacks-requires c = c.requires.sized
-
-pub returns-else-not-same_bytes : goal.returns-else-not-same_bytes
-returns-else-not-same_bytes c =
-    replies_of_same c.args.file.now c.args.net.now c.args.certificate.now c.requires _ _ _ _ _ _ (reply_lies (goal.at.returns-else-not-same_bytes c).In-Replies)
-    (sym c.same_bytes.ensures ∙ c.if-not-same_bytes.false) _ c.check_replies.ensures
-
-pub returns-else-not-same_bytes-2 : goal.returns-else-not-same_bytes-2
-returns-else-not-same_bytes-2 c =
-    attacks_of_same c.args.file.now c.args.net.now c.args.certificate.now c.requires _ _ _ (attack_lies (goal.at.returns-else-not-same_bytes-2 c).In-Attacks)
-    (sym c.same_bytes-in-Attacks.ensures ∙ c.if-not-same_bytes-2.false) _ c.check_attacks.ensures
-
-pub returns-in-Other : goal.returns-in-Other
-unfolding checked_outcome
-returns-in-Other c =
-    misshapen c.args.file.now c.args.net.now c.args.certificate.now c.requires
-    (shape_other accepted_kinds c.args.certificate.now c.in-Other.ensures)
-
-pub slice_bounds-check_replies-start-in-Replies : goal.slice_bounds-check_replies-start-in-Replies
-slice_bounds-check_replies-start-in-Replies c =
-    (reply_lies (goal.at.slice_bounds-check_replies-start-in-Replies c).In-Replies).table_part.ordered
-
-pub slice_bounds-check_replies-end-in-Replies : goal.slice_bounds-check_replies-end-in-Replies
-slice_bounds-check_replies-end-in-Replies c = (reply_lies (goal.at.slice_bounds-check_replies-end-in-Replies c).In-Replies).table_part.inside
-
-pub slice_bounds-same_bytes-start-in-Attacks : goal.slice_bounds-same_bytes-start-in-Attacks
-slice_bounds-same_bytes-start-in-Attacks c = (attack_lies (goal.at.slice_bounds-same_bytes-start-in-Attacks c).In-Attacks).circuit_part.ordered
-
-pub slice_bounds-same_bytes-end-in-Attacks : goal.slice_bounds-same_bytes-end-in-Attacks
-slice_bounds-same_bytes-end-in-Attacks c = (attack_lies (goal.at.slice_bounds-same_bytes-end-in-Attacks c).In-Attacks).circuit_part.inside
+pub returns-in_ok-check-in-Attacks : goal.returns-in_ok-check-in-Attacks
+unfolding checked_outcome outcome_of starts_in
+returns-in_ok-check-in-Attacks c =
+    let w = goal.at.returns-in_ok-check-in-Attacks c in
+    attacks_told c.args.file.now c.args.certificate.now c.args.net c.requires (same w.Else-ne) c.in-Attacks.circuit c.in-Attacks.table
+    (ap Some (sym c.in-Attacks.is) ∙ shaped w.In_ok-shape) _ c.bytes_of-in-Attacks.ensures _ c.in_ok-check-in-Attacks.ensures

@@ -4,10 +4,8 @@ use Rattle.circuit.specs.Circuit.{Circuit}
 use Rattle.circuit.specs.Outcome.{taken}
 use Rattle.file.specs.CircuitIn.{circuit_in}
 use Rattle.net.specs.NetOf.{net_of}
-use Rattle.checker.specs.Inner.Sized.{Sized}
 
 pub record FileNet (file net : List ℕ) : Type 0 where
   pub circuit : Circuit
   pub read : circuit_in file ≡ taken circuit
   pub is : net ≡ net_of circuit
-  pub sized : Sized net

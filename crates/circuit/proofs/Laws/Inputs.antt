@@ -1,13 +1,16 @@
 -- What holds of the count of inputs that pass a test: one input more, and those that don't pass. Assumes nothing.
-use Prim.Native.Nat.{ℕ, suc, ◌+◌, ◌<◌, ◌≤◌}
+use Prim.Native.Nat.{ℕ, zero, suc, ◌+◌, ◌<◌, ◌≤◌}
+use native.Mathlib.Decide.{dec_lt}
+use native.Mathlib.Nat.{add-zero}
 use native.Mathlib.Omega.{arith}
-use native.Mathlib.Numerals.{add-one}
 use mathlib.Core.Bool.{Bool, true, false, cond, not}
 use mathlib.Core.List.{List, [], ◌∷◌, ◌++◌}
-use mathlib.Core.Path.{◌≡◌, refl, ap, ◌∙◌}
-use borrow.Author.Tests.{eq-eqb, ne_eqb}
+use mathlib.Core.Path.{◌≡◌, refl, sym, ap, ◌∙◌}
 use lib.Dec.{eqb}
-use lib.ListN.{length, get_or}
+use lib.ListN.{length, get_or, take, get_or-eq_default}
+use lib.Seq.{take_all, take-suc}
+use Rattle.std.proofs.lemmas.List.Sums.{sum_by_push}
+use Rattle.std.specs.List.{count_by}
 use Rattle.below.specs.Table.{table}
 use Rattle.below.proofs.Laws.Table.{length_table}
 use Rattle.circuit.specs.Circuit.{Input, inputs_that}
@@ -44,55 +47,33 @@ inputs_parted p (i ∷ is) = by (p i) (inputs_parted p is)
     by true ih = omega arith
     by false ih = omega arith
 
--- the count goes on from i inputs to i + 1
-module _ (p : Input → Bool) (f : ℕ → Input) (i n : ℕ) (so_far : n ≡ inputs_that p (table f i)) where
-  pub count_passes : p (f i) ≡ true → n + 1 ≡ inputs_that p (table f (i + 1))
-  unfolding table inputs_that
-  count_passes e = rw (add-one i, inputs_append p (table f i) (f i ∷ []), e) (omega arith)
-
-  pub count-fails : p (f i) ≡ false → n ≡ inputs_that p (table f (i + 1))
-  unfolding table inputs_that
-  count-fails e = rw (add-one i, inputs_append p (table f i) (f i ∷ []), e) (omega arith)
-
--- a loop that counts the controllable inputs of lent lists
+-- the flag of an input; past the flags it is 0
 input_at : (input controllable : List ℕ) → ℕ → Input
 input_at input controllable i = record { own = literal_of (get_or input i 0); controllable = not (eqb (get_or controllable i 0) 0) }
 
-pub record Counting (input controllable : List ℕ) (n i : ℕ) : Type 0 where
-  pub within : i ≤ length input
-  pub most : n ≤ i
-  counted : n ≡ inputs_that (λ (j : Input). j.controllable) (table (input_at input controllable) i)
+abbrev is_set : ℕ → Bool
+is_set flag = not (eqb flag 0)
 
 module _ (input controllable : List ℕ) where
-  pub counting_start : Counting input controllable 0 0
-  unfolding table inputs_that
-  counting_start = record { within = omega arith; most = omega arith; counted = refl }
+  -- the flags that are set, of as many as there are inputs
+  flags_front : (n : ℕ) → count_by is_set (take n controllable) ≡ inputs_that (λ i. i.controllable) (table (input_at input controllable) n)
+  unfolding table inputs_that input_at
+  flags_front zero = refl
+  flags_front (suc n) = by (dec_lt n (length controllable)) (flags_front n) ∙ sym (inputs_append (λ i. i.controllable) (table here n) (here n ∷ []))
+    where
+      here : ℕ → Input
+      here = input_at input controllable
 
-  pub counting_one : (n i : ℕ) → Counting input controllable n i → i < length input → (get_or controllable i 0 ≡ 0 → ⊥)
-      → Counting input controllable (n + 1) (i + 1)
-  unfolding input_at
-  counting_one n i w h d = record {
-    within = omega arith;
-    most = omega arith;
-    counted =
-        count_passes (λ (j : Input). j.controllable) (input_at input controllable) i n w.counted (ap not (ne_eqb (get_or controllable i 0) 0 d));
-  }
+      by : Dec (n < length controllable) → count_by is_set (take n controllable) ≡ inputs_that (λ i. i.controllable) (table here n)
+          → count_by is_set (take (suc n) controllable) ≡ inputs_that (λ i. i.controllable) (table here n) + inputs_that (λ i. i.controllable) (here n ∷ [])
+      by (yes h) e = rw (take-suc controllable n 0 h) (sum_by_push (λ b. cond (is_set b) 1 0) (take n controllable) (get_or controllable n 0)
+          ∙ ap (λ (m : ℕ). m + cond (is_set (get_or controllable n 0)) 1 0) e)
+      by (no h) e = rw (take_all (suc n) controllable (omega arith), get_or-eq_default controllable 0 {n = n} (omega arith))
+          (ap (count_by is_set) (sym (take_all n controllable (omega arith))) ∙ e ∙ sym (add-zero _))
 
-  pub counting_none : (n i : ℕ) → Counting input controllable n i → i < length input → get_or controllable i 0 ≡ 0 → Counting input controllable n (i + 1)
-  unfolding input_at
-  counting_none n i w h e = record {
-    within = omega arith;
-    most = omega arith;
-    counted =
-        count-fails (λ (j : Input). j.controllable) (input_at input controllable) i n w.counted (ap not (eq-eqb (get_or controllable i 0) 0 e));
-  }
-
-  pub counting_end : (n i : ℕ) → Counting input controllable n i → length input ≤ i
-      → n ≡ inputs_that (λ (j : Input). j.controllable) (inputs_of input controllable)
+  pub controllable_flags : count_by is_set (take (length input) controllable) ≡ inputs_that (λ i. i.controllable) (inputs_of input controllable)
   unfolding inputs_of input_at
-  counting_end n i w h =
-      let all : i ≡ length input = omega arith in
-      w.counted ∙ ap (λ (m : ℕ). inputs_that (λ (j : Input). j.controllable) (table (input_at input controllable) m)) all
+  controllable_flags = flags_front (length input)
 
   pub length_inputs : length (inputs_of input controllable) ≡ length input
   unfolding inputs_of

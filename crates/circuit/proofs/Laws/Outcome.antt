@@ -23,11 +23,7 @@ unfolding refuse_if
 passed_test true number place next b e = absurd (refused_is-not_taken number place b e)
 passed_test false number place next b e = (refl, e)
 
--- a test that refuses, and one that doesn't
-pub test_refuses : {B : Type 0} (t : Bool) (number place : ℕ) (next : Outcome B) → t ≡ true → (refuse_if t number place >> next) ≡ refused number place
-unfolding refuse_if
-test_refuses t number place next e = rw e
-
+-- a test that doesn't refuse
 pub test_passes : {B : Type 0} (t : Bool) (number place : ℕ) (next : Outcome B) → t ≡ false → (refuse_if t number place >> next) ≡ next
 unfolding refuse_if
 test_passes t number place next e = rw e

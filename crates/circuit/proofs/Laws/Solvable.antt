@@ -2,17 +2,15 @@
 use Prim.Native.Nat.{ℕ, min, ◌≤◌}
 use native.Mathlib.Omega.{arith}
 use mathlib.Core.Bool.{Bool, true, false, ◌||◌}
-use mathlib.Core.List.{List, []}
+use mathlib.Core.List.{List}
 use mathlib.Core.Path.{◌≡◌, refl, sym, ap₂, ◌∙◌}
 use borrow.Author.Tests.{ltb-false}
 use lib.Dec.{ltb}
 use lib.ListN.{length}
-use Rattle.below.specs.Table.{table}
 use Rattle.below.proofs.Laws.Table.{length_table}
 use Rattle.circuit.specs.Circuit.{Circuit, latch_count, uncontrollable_count, controllable_count, too_many}
 use Rattle.circuit.specs.Limits.{base}
-use Rattle.circuit.specs.Literal.{too_large}
-use Rattle.circuit.specs.Stored.{lent, inputs_of, latches_of, gates_of, literal_of, empty_circuit, solvable}
+use Rattle.circuit.specs.Stored.{lent, latches_of, empty_circuit, solvable}
 
 module _ (c : Circuit) (U C : ℕ) (uncontrollable : U ≡ uncontrollable_count c) (controllable : C ≡ controllable_count c) where
   many_is : (ltb base.uncontrollable U || ltb base.controllable C) ≡ too_many base c
@@ -36,11 +34,6 @@ few_are U C e = by (ltb base.uncontrollable U) (ltb base.controllable C) refl re
     by true b p q e = absurd (let z : ◌≡◌ {A = ℕ} 0 1 = cc in omega arith)
     by false true p q e = absurd (let z : ◌≡◌ {A = ℕ} 0 1 = cc in omega arith)
     by false false p q e = (ltb-false _ _ p, ltb-false _ _ q)
-
--- lists of nothing say the empty circuit
-pub lent_nothing : (controllable next left right : List ℕ) → lent 0 [] controllable [] next 0 [] left right ≡ empty_circuit
-unfolding lent inputs_of latches_of gates_of literal_of too_large empty_circuit table
-lent_nothing controllable next left right = refl
 
 -- L of lent lists
 pub lent_latches : (largest : ℕ) (input controllable latch next : List ℕ) (output : ℕ) (gate left right : List ℕ)

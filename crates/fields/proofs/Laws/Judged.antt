@@ -8,7 +8,7 @@ use mathlib.Core.Path.{◌≡◌, refl, sym, ap}
 use borrow.Author.Tests.{ltb-false}
 use Rattle.circuit.specs.Literal.{variable, constant, too_large}
 use Rattle.circuit.specs.Outcome.{taken, refused}
-use Rattle.fields.specs.Inner.Marks.{marked, unmarked, Marks, number_or}
+use Rattle.fields.specs.Inner.Marks.{marked, unmarked, Marks}
 use Rattle.text.specs.Numbers.{bad_line}
 use Rattle.text.specs.Rules.{Rule, first_of, bad_own, is_defined, unknown, input_rule, latch_rule, output_rule, gate_rule}
 use Rattle.text.specs.Section.{judged}
@@ -27,22 +27,9 @@ module _ (rule : Rule) (defined : List ℕ) (place : ℕ) (numbers : Option (Lis
     unfolding judged
     judged_faulty number e = rw (are, e, judged)
 
--- a number that is 0 says that none applies, and another that it does
-pub none_of : (five six : Bool) → number_or (first_of five six) ≡ 0 → first_of five six ≡ none
-unfolding number_or first_of
-none_of true six e = absurd (omega arith)
-none_of false true e = absurd (omega arith)
-none_of false false e = refl
-
-pub some_of : (five six : Bool) → (number_or (first_of five six) ≡ 0 → ⊥) → first_of five six ≡ some (number_or (first_of five six))
-unfolding number_or first_of
-some_of true six e = refl
-some_of false true e = refl
-some_of false false e = absurd (e refl)
-
-pub not_five : (five six : Bool) → number_or (first_of five six) ≡ 0 → five ≡ false
-unfolding number_or first_of
-not_five true six e = absurd (omega arith)
+pub not_five : (five six : Bool) → first_of five six ≡ none → five ≡ false
+unfolding first_of
+not_five true six e = cc
 not_five false six e = refl
 
 pub neither : (a b : Bool) → (a || b) ≡ false → (a ≡ false) × (b ≡ false)

@@ -4,11 +4,12 @@ use native.Mathlib.Decide.{dec_lt, ℕ_discrete}
 use native.Mathlib.Omega.{arith}
 use mathlib.Core.Bool.{Bool, true, false, cond, ◌&&◌, ◌||◌}
 use mathlib.Core.List.{List, [], ◌∷◌, ◌++◌}
-use mathlib.Core.Path.{◌≡◌, refl, ap, ◌∙◌}
+use mathlib.Core.Path.{◌≡◌, refl, sym, ap, ◌∙◌}
 use lib.Dec.{eqb, ltb}
 use borrow.Author.Tests.{lt-ltb, le-ltb, eq-eqb, ne_eqb}
 use Rattle.below.specs.Among.{among}
 use Rattle.below.proofs.Laws.Among.{among_snoc}
+use Rattle.fields.proofs.Laws.Truth.{or-false, and_true, and-false}
 
 module _ {A : Type 0} where
   pub among_append : (q : A → Bool) (xs ys : List A) → among q (xs ++ ys) ≡ (among q xs || among q ys)
@@ -30,23 +31,15 @@ module _ {A : Type 0} where
       unfolding picked
       more n = by (p n)
         where
-          or-false : (a : Bool) → a ≡ (a || false)
-          or-false true = refl
-          or-false false = refl
-
           by : (b : Bool) → among q (cond b (picked n ++ (f n ∷ [])) (picked n)) ≡ (among q (picked n) || (b && q (f n)))
           by true = among_snoc q (picked n) (f n)
-          by false = or-false (among q (picked n))
+          by false = sym (or-false (among q (picked n)))
 
       -- a test that no element passes
       pub picked_none : ((j : ℕ) → q (f j) ≡ false) → (n : ℕ) → among q (picked n) ≡ false
       unfolding picked among
       picked_none e zero = refl
-      picked_none e (suc n) = more n ∙ rw (picked_none e n, e n) (by (p n))
-        where
-          by : (b : Bool) → (b && false) ≡ false
-          by true = refl
-          by false = refl
+      picked_none e (suc n) = more n ∙ rw (picked_none e n, e n) (and-false (p n))
 
       -- a test that the element of one number passes
       pub picked_one : (i : ℕ) → ((j : ℕ) → q (f j) ≡ eqb j i) → (n : ℕ) → among q (picked n) ≡ (ltb i n && p i)
@@ -55,18 +48,6 @@ module _ {A : Type 0} where
       picked_one i e (suc n) = more n ∙ rw (picked_one i e n, e n) (elim (ℕ_discrete n i)
           [ yes s ↦ here s | no d ↦ elim (dec_lt i n) [ yes l ↦ below d l | no l ↦ above d l ] ])
         where
-          or-false : (a : Bool) → (a || false) ≡ a
-          or-false true = refl
-          or-false false = refl
-
-          and_true : (a : Bool) → (a && true) ≡ a
-          and_true true = refl
-          and_true false = refl
-
-          and-false : (a : Bool) → (a && false) ≡ false
-          and-false true = refl
-          and-false false = refl
-
           here : n ≡ i → ((ltb i n && p i) || (p n && eqb n i)) ≡ (ltb i (suc n) && p i)
           here s = rw (le-ltb i n (omega arith), lt-ltb i (suc n) (omega arith), eq-eqb n i s) (and_true (p n) ∙ ap p s)
 

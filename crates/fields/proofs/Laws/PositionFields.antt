@@ -5,11 +5,15 @@ use native.Mathlib.Omega.{arith}
 use native.Mathlib.Nat.{add-zero}
 use mathlib.Core.List.{List, [], ◌∷◌}
 use mathlib.Core.Option.{none, some}
-use mathlib.Core.Path.{◌≡◌, ap, ◌∙◌}
+use mathlib.Core.Path.{◌≡◌, refl, ap, ◌∙◌}
 use lib.ListN.{length, get_or, drop, drop_of_length-le, get_or-eq_default}
 use lib.Seq.{drop-drop, get_or-drop, drop-cons}
-use borrow.Author.Tests.{eq-eqb, ne_eqb}
-use Rattle.fields.specs.Inner.RowAt.{MoreAt, LastAt, NoneAt}
+use lib.Dec.{eqb}
+use mathlib.Core.Bool.{Bool, true, false}
+use borrow.Author.Tests.{eq-eqb, ne_eqb, eqb-true, eqb-false}
+use Rattle.std.specs.Bool.{then_some}
+use Rattle.std.specs.Prelude.{None}
+use Rattle.fields.specs.Inner.RowAt.{FieldAt, MoreAt, LastAt, NoneAt}
 use Rattle.text.specs.Line.{fields, prepend}
 use Rattle.text.specs.Number.{is, bad, number}
 
@@ -46,17 +50,25 @@ module _ (s : List ℕ) (at : ℕ) where
     pub field_more : get_or s next 0 ≡ 32 → MoreAt s at v (next + 1)
     field_more e = record { more = same 32 e; last = other 10 (λ f. omega arith) [] }
 
-    pub field_last : get_or s next 0 ≡ 10 → next + 1 ≡ length s → LastAt s at v
+    field_last : get_or s next 0 ≡ 10 → next + 1 ≡ length s → LastAt s at v
     unfolding prepend
     field_last e end = record { more = other 32 (λ f. omega arith); last = same 10 e [] ∙ ap (prepend v) (fields_end s (next + 1) end) }
 
-    pub field-not_last : get_or s next 0 ≡ 10 → (next + 1 ≡ length s → ⊥) → NoneAt s at
+    field-not_last : get_or s next 0 ≡ 10 → (next + 1 ≡ length s → ⊥) → NoneAt s at
     unfolding prepend
     field-not_last e end = record {
       more = other 32 (λ f. omega arith);
       last = same 10 e []
           ∙ ap (prepend v) (fields_more s (next + 1) (omega (arith, inside 10 e (omega arith))));
     }
+
+    -- byte 10 ends the line, or something stands behind it
+    pub field-ended : get_or s next 0 ≡ 10 → FieldAt s at (then_some (eqb (next + 1) (length s)) (record { value = v; next = None }))
+    field-ended e = by (eqb (next + 1) (length s)) refl
+      where
+        by : (b : Bool) → eqb (next + 1) (length s) ≡ b → FieldAt s at (then_some b (record { value = v; next = None }))
+        by true t = field_last e (eqb-true (next + 1) (length s) t)
+        by false f = field-not_last e (eqb-false (next + 1) (length s) f)
 
     pub field-other : (get_or s next 0 ≡ 32 → ⊥) → (get_or s next 0 ≡ 10 → ⊥) → NoneAt s at
     field-other e f = record { more = other 32 e; last = other 10 f [] }

@@ -117,6 +117,7 @@ module _ (s : List ℕ) (at i k : ℕ) (numbers : List ℕ) (w : Reading s at i 
         record {
           least = omega arith;
           most = omega arith;
+          five = length-set numbers k v ∙ w.long;
           is = w.left 0 ∙ ap (behind (take k numbers)) f.last ∙ ap some (sym (take-suc-set numbers k v fits)
               ∙ ap (λ (m : ℕ). take m (set numbers k v)) (sym (add-one k)));
           only = λ n l d. elim (dec_lt k n) [
@@ -126,15 +127,3 @@ module _ (s : List ℕ) (at i k : ℕ) (numbers : List ℕ) (w : Reading s at i 
           ];
           others = λ j h. others_set j (omega arith);
         }
-
--- five numbers, one by one
-pub five_cells : (numbers : List ℕ) → length numbers ≡ 5 → numbers ≡ get_or numbers 0 0 ∷ get_or numbers 1 0 ∷ get_or numbers 2 0 ∷ get_or numbers 3 0 ∷ get_or
-    numbers
-    4 0 ∷ []
-five_cells [] e = absurd (omega arith)
-five_cells (a ∷ []) e = absurd (omega arith)
-five_cells (a ∷ b ∷ []) e = absurd (omega arith)
-five_cells (a ∷ b ∷ c ∷ []) e = absurd (omega arith)
-five_cells (a ∷ b ∷ c ∷ d ∷ []) e = absurd (omega arith)
-five_cells (a ∷ b ∷ c ∷ d ∷ f ∷ []) e = refl
-five_cells (a ∷ b ∷ c ∷ d ∷ f ∷ g ∷ rest) e = absurd (omega arith)

@@ -1,8 +1,10 @@
--- The code's marks for the variables that are defined, one byte for each (01, "The file", rule 4), and its numbers for faults, 0 for none.
+-- The code's marks for the variables that are defined, one byte for each (01, "The file", rule 4), and the number of a fault.
 -- Assumes nothing.
-use Rattle.std.specs.Prelude.{ℕ, Bool, not, ◌&&◌, List, ◌≡◌, eqb, get_or}
+use Rattle.std.specs.Prelude.{ℕ, Bool, not, ◌&&◌, List, ◌≡◌, eqb, get_or, Option as Found, Some, None}
 use Rattle.std.proofs.Math.Option.{Option, none, some}
 use Rattle.below.specs.Among.{member}
+use Rattle.circuit.specs.Fault.{number_of}
+use Rattle.circuit.specs.declared.numbers.Fault.{Fault}
 use Rattle.circuit.specs.Literal.{variable, constant}
 
 -- a literal's variable is marked; and a literal is neither a constant nor marked
@@ -16,6 +18,7 @@ unmarked marks l = not (constant l) && not (marked marks l)
 unfoldable pub Marks : List ℕ → List ℕ → Type 0
 Marks marks defined = (v : ℕ) → eqb (get_or marks v 0) 1 ≡ member v defined
 
-unfoldable pub number_or : Option ℕ → ℕ
-number_or none = 0
-number_or (some number) = number
+-- the number of a fault, where there is one
+abbrev pub number_if : Found Fault → Option ℕ
+number_if None = none
+number_if (Some fault) = some (number_of fault)

@@ -6,9 +6,12 @@ use mathlib.Core.List.{List}
 use mathlib.Core.Logic.{◌↔◌}
 use mathlib.Core.Path.{◌≡◌, refl, sym, ap, ◌∙◌}
 use lib.ListN.{length}
-use Rattle.circuit.specs.Answer.{ReadAs, read_outcome, no_room, fitted}
+use Rattle.std.specs.Prelude.{Result}
+use Rattle.circuit.specs.Answer.{ReadAs, outcome_of, no_room, fitted}
 use Rattle.circuit.specs.Circuit.{Circuit}
-use Rattle.circuit.specs.declared.FileRead.{FileRead}
+use Rattle.circuit.specs.Stored.{stored}
+use Rattle.circuit.specs.declared.Circuit.{Circuit as Value}
+use Rattle.circuit.specs.declared.numbers.Refusal.{Refusal}
 use Rattle.circuit.specs.Outcome.{Outcome, taken, refused, ◌>>=◌}
 use Rattle.circuit.proofs.Laws.Answer.{fitted_taken, fitted_refused}
 use Rattle.text.proofs.Laws.Outcome.{taken_is-not_refused, moved}
@@ -22,11 +25,11 @@ told_refused (taken a) f number place = (λ e. absurd (taken_is-not_refused numb
 told_refused (refused m q) f number place = (λ e. moved m q number place e, λ e. moved m q number place e)
 
 pub reader_refused_exactly :
-    (file : List ℕ) (r : FileRead) (number place : ℕ) → ReadAs (circuit_in file) r
-    → (read_outcome r.answer ≡ refused number place) ↔ (circuit_in file ≡ refused number place)
+    (file : List ℕ) (r : Result Value Refusal) (number place : ℕ) → ReadAs (circuit_in file) r
+    → (outcome_of r ≡ refused number place) ↔ (circuit_in file ≡ refused number place)
 reader_refused_exactly file r number place w =
-    let both = told_refused (circuit_in file) (λ c. tt) number place in
-    (λ e. both.0 (sym w.answer ∙ e), λ e. w.answer ∙ both.1 e)
+    let both = told_refused (circuit_in file) stored number place in
+    (λ e. both.0 (sym w ∙ e), λ e. w ∙ both.1 e)
 
 module _ (file : List ℕ) (bytes : Circuit → List ℕ) (room number place : ℕ) where
   row_of : (o : Outcome Circuit) → circuit_in file ≡ o → (o >>= λ c. fitted (bytes c) room) ≡ refused number place → WriterRow file bytes room number place

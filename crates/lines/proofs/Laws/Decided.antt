@@ -2,26 +2,26 @@
 use Prim.Native.Nat.{ℕ, ◌<◌}
 use native.Mathlib.Omega.{arith}
 use mathlib.Core.Bool.{Bool, true, false, cond, ◌&&◌, ◌||◌, true≢false}
-use mathlib.Core.List.{List, [], ◌∷◌, ◌++◌}
+use mathlib.Core.List.{List, [], ◌++◌}
 use mathlib.Core.Option.{none, some}
 use mathlib.Core.Path.{◌≡◌, refl, sym, ap, ap₂, ◌∙◌, subst}
 use lib.Dec.{eqb}
 use lib.ListN.{get_or, take}
 use borrow.Author.Tests.{lt-ltb, eq-eqb, eqb-true}
 use Rattle.below.specs.Among.{among}
+use Rattle.circuit.specs.Fault.{number_of}
 use Rattle.circuit.specs.Outcome.{Outcome, taken, refused}
+use Rattle.circuit.proofs.Laws.Fault.{same_number}
 use Rattle.fields.proofs.Laws.Decided.{same_numbers, defined_by, marks_say}
 use Rattle.fields.proofs.Laws.Picked.{picked, picked_none, picked_one, among_append}
 use Rattle.lines.specs.Inner.LinedAs.{LinedAs}
 use Rattle.lines.specs.Inner.Named.{Named, slot_of}
 use Rattle.lines.specs.Inner.SymboledAs.{SymbolAs}
 use Rattle.lines.specs.Inner.Headed.{HeadedAs}
-use Rattle.lines.specs.declared.header.Headed.{Headed}
-use Rattle.lines.specs.declared.header.Headed.TheVariants.{Is, Bad as BadHeader}
-use Rattle.lines.specs.declared.body.Lined.{Lined}
-use Rattle.lines.specs.declared.body.Lined.TheVariants.{Row, Fault}
-use Rattle.lines.specs.declared.symbol.Symboled.{Symboled}
-use Rattle.lines.specs.declared.symbol.Symboled.TheVariants.{Comment, Of, Bad}
+use Rattle.std.specs.Prelude.{Option as Found, Some, None, Result, Ok, Err}
+use Rattle.circuit.specs.declared.numbers.Fault.{Fault}
+use Rattle.lines.specs.declared.header.Header.{Header as HeaderValue}
+use Rattle.lines.specs.declared.symbol.Symbol.{Symbol as SymbolValue}
 use Rattle.fields.specs.Inner.Marks.{Marks}
 use Rattle.text.specs.Header.{Header}
 use Rattle.text.specs.Line.{numbers_of}
@@ -36,38 +36,35 @@ agree : (rule : Rule) (marks line : List ℕ) (f g : ℕ → Outcome (List ℕ))
     → ((defined : List ℕ) (place : ℕ) → Marks marks defined → judged rule defined place (numbers_of rule.count line) ≡ g place) → f 0 ≡ g 0
 agree rule marks line f g v w = sym (v (defined_by marks) 0 (marks_say marks)) ∙ w (defined_by marks) 0 (marks_say marks)
 
-pub lined_decided : (largest : ℕ) (rule : Rule) (marks line : List ℕ) (r q : Lined) → LinedAs largest rule marks line r → LinedAs largest rule marks line q
-    → r ≡ q
-lined_decided largest rule marks line (Row a b c) (Row d e f) (v, l) (w, m) =
-    let xs = a ∷ b ∷ c ∷ [] in
-    let ys = d ∷ e ∷ f ∷ [] in
+pub lined_decided : (largest : ℕ) (rule : Rule) (marks line : List ℕ) (r q : Result (List ℕ) Fault) → LinedAs largest rule marks line r
+    → LinedAs largest rule marks line q → r ≡ q
+lined_decided largest rule marks line (Ok xs) (Ok ys) (v, l) (w, m) =
     let told = agree rule marks line (λ p. taken (take rule.count xs)) (λ p. taken (take rule.count ys)) v w in
     let front : take rule.count xs ≡ take rule.count ys = cc in
-    let all : xs ≡ ys = same_numbers rule.count xs ys refl front l.others m.others in
+    ap {B = Result (List ℕ) Fault} Ok (same_numbers rule.count xs ys (l.three ∙ sym m.three) front l.others m.others)
+lined_decided largest rule marks line (Ok xs) (Err n) (v, l) w =
+    let told = agree rule marks line (λ p. taken (take rule.count xs)) (refused (number_of n)) v w in
     cc
-lined_decided largest rule marks line (Row a b c) (Fault n) (v, l) w =
-    let told = agree rule marks line (λ p. taken (take rule.count (a ∷ b ∷ c ∷ []))) (refused n) v w in
+lined_decided largest rule marks line (Err n) (Ok xs) v (w, l) =
+    let told = agree rule marks line (refused (number_of n)) (λ p. taken (take rule.count xs)) v w in
     cc
-lined_decided largest rule marks line (Fault n) (Row a b c) v (w, l) =
-    let told = agree rule marks line (refused n) (λ p. taken (take rule.count (a ∷ b ∷ c ∷ []))) v w in
-    cc
-lined_decided largest rule marks line (Fault n) (Fault k) v w =
-    let told = agree rule marks line (refused n) (refused k) v w in
-    ap {B = Lined} Fault cc
+lined_decided largest rule marks line (Err n) (Err k) v w =
+    let told = agree rule marks line (refused (number_of n)) (refused (number_of k)) v w in
+    ap {B = Result (List ℕ) Fault} Err (same_number n k cc)
 
 -- the header's five numbers
-pub header_decided : (line : List ℕ) (r q : Headed) → HeadedAs line r → HeadedAs line q → r ≡ q
-header_decided line (Is v) (Is w) e f =
+pub header_decided : (line : List ℕ) (r q : Found HeaderValue) → HeadedAs line r → HeadedAs line q → r ≡ q
+header_decided line (Some v) (Some w) e f =
     let told = sym e ∙ f in
     let m : v.largest ≡ w.largest = cc in
     let i : v.inputs ≡ w.inputs = cc in
     let l : v.latches ≡ w.latches = cc in
     let o : v.outputs ≡ w.outputs = cc in
     let a : v.gates ≡ w.gates = cc in
-    λ x. Is (record { largest = m x; inputs = i x; latches = l x; outputs = o x; gates = a x })
-header_decided line (Is v) BadHeader e f = let told = sym e ∙ f in cc
-header_decided line BadHeader (Is w) e f = let told = sym e ∙ f in cc
-header_decided line BadHeader BadHeader e f = refl
+    λ x. Some (record { largest = m x; inputs = i x; latches = l x; outputs = o x; gates = a x })
+header_decided line (Some v) None e f = let told = sym e ∙ f in cc
+header_decided line None (Some w) e f = let told = sym e ∙ f in cc
+header_decided line None None e f = refl
 
 -- any marks say which positions are named
 module _ (h : Header) (marks : List ℕ) where
@@ -126,24 +123,28 @@ module _ (h : Header) (marks : List ℕ) where
           so output_letter (eqb-true _ _ g) (sym (all output_letter ∙ rw (one, two, mine)))
       by false false false e f g l = absurd (omega arith)
 
-  pub symbol_decided : (line : List ℕ) (r q : Symboled) → SymbolAs h marks line r → SymbolAs h marks line q → r ≡ q
-  symbol_decided line Comment Comment v w = refl
-  symbol_decided line Comment (Of slot at flag) v w = absurd (true≢false (sym v ∙ w.0))
-  symbol_decided line Comment Bad v w = absurd (true≢false (sym v ∙ w.0))
-  symbol_decided line (Of slot at flag) Comment v w = absurd (true≢false (sym w ∙ v.0))
-  symbol_decided line Bad Comment v w = absurd (true≢false (sym w ∙ v.0))
-  symbol_decided line Bad Bad v w = refl
-  symbol_decided line (Of slot at flag) Bad v w = let a = v.1 named_by marks_name in let told : some a.symbol ≡ none = sym a.is
-      ∙ w.1 named_by marks_name in cc
-  symbol_decided line Bad (Of slot at flag) v w = let b = w.1 named_by marks_name in let told : none ≡ some b.symbol = sym (v.1 named_by marks_name)
-      ∙ b.is in cc
-  symbol_decided line (Of slot at flag) (Of slot' at' flag') v w =
-      let a = v.1 named_by marks_name in
-      let b = w.1 named_by marks_name in
-      let told : some a.symbol ≡ some b.symbol = sym a.is ∙ b.is in
-      let same : a.symbol ≡ b.symbol = cc in
-      let places : at ≡ at' = sym a.at ∙ ap (λ (s : Symbol). s.position) same ∙ b.at in
-      let slots : slot ≡ slot' = a.marked ∙ ap₂ (λ (s : Symbol) (n : ℕ). slot_of h s.letter n) same places ∙ sym b.marked in
-      let flags : flag ≡ flag' = a.flagged ∙ ap₂ (λ (s : Symbol) (n : ℕ). names input_letter n s && is_controllable_name s.name) same places
-      ∙ sym b.flagged in
-      λ x. Of (slots x) (places x) (flags x)
+  pub symbol_decided : (line : List ℕ) (r q : Result (Found SymbolValue) Fault) → SymbolAs h marks line r → SymbolAs h marks line q → r ≡ q
+  symbol_decided line (Ok None) (Ok None) v w = refl
+  symbol_decided line (Ok None) (Ok (Some b)) v w = absurd (true≢false (sym v ∙ w.0))
+  symbol_decided line (Ok None) (Err g) v w = absurd (true≢false (sym v ∙ w.0))
+  symbol_decided line (Ok (Some a)) (Ok None) v w = absurd (true≢false (sym w ∙ v.0))
+  symbol_decided line (Err f) (Ok None) v w = absurd (true≢false (sym w ∙ v.0))
+  symbol_decided line (Err f) (Err g) v w = ap {B = Result (Found SymbolValue) Fault} Err (v.1 ∙ sym w.1)
+  symbol_decided line (Ok (Some a)) (Err g) v w =
+      let one = v.1 named_by marks_name in
+      let told : some one.symbol ≡ none = sym one.is ∙ w.2 named_by marks_name in
+      cc
+  symbol_decided line (Err f) (Ok (Some b)) v w =
+      let one = w.1 named_by marks_name in
+      let told : none ≡ some one.symbol = sym (v.2 named_by marks_name) ∙ one.is in
+      cc
+  symbol_decided line (Ok (Some a)) (Ok (Some b)) v w =
+      let one = v.1 named_by marks_name in
+      let two = w.1 named_by marks_name in
+      let told : some one.symbol ≡ some two.symbol = sym one.is ∙ two.is in
+      let same : one.symbol ≡ two.symbol = cc in
+      let places : a.position ≡ b.position = sym one.at ∙ ap (λ (s : Symbol). s.position) same ∙ two.at in
+      let slots : a.slot ≡ b.slot = one.marked ∙ ap₂ (λ (s : Symbol) (n : ℕ). slot_of h s.letter n) same places ∙ sym two.marked in
+      let flags : a.controls ≡ b.controls =
+      one.flagged ∙ ap₂ (λ (s : Symbol) (n : ℕ). names input_letter n s && is_controllable_name s.name) same places ∙ sym two.flagged in
+      λ x. Ok (Some (record { slot = slots x; position = places x; controls = flags x }))

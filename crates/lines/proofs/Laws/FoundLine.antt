@@ -5,16 +5,19 @@ use mathlib.Core.Bool.{Bool, true, false, not, ◌&&◌, ◌||◌}
 use mathlib.Core.List.{List, [], ◌∷◌}
 use mathlib.Core.Option.{none, some}
 use mathlib.Core.Path.{◌≡◌, refl, sym, ap, ◌∙◌, subst}
-use lib.ListN.{get_or, take}
+use lib.ListN.{length, get_or, take}
 use borrow.Author.Tests.{le-ltb}
+use Rattle.circuit.specs.Fault.{number_of}
+use Rattle.circuit.specs.declared.numbers.Fault.{Fault}
+use Rattle.circuit.specs.declared.numbers.Fault.TheVariants.{BadLine}
 use Rattle.circuit.specs.Literal.{may_define, too_large}
-use Rattle.fields.specs.Inner.Marks.{marked, Marks, number_or}
+use Rattle.fields.specs.Inner.Marks.{marked, Marks}
 use Rattle.fields.specs.Inner.RowAt.{IsRow}
-use Rattle.fields.proofs.Laws.Judged.{judged_malformed, judged_fine, judged_faulty, none_of, some_of, not_five, neither, literal_below, input_fault}
+use Rattle.fields.proofs.Laws.Judged.{judged_malformed, judged_fine, judged_faulty, not_five, neither, literal_below, input_fault}
 use Rattle.fields.proofs.Laws.Judged.{latch_fault, output_fault, gate_fault}
 use Rattle.lines.specs.Inner.Kinds.{rule_of, form_of, fault_of}
 use Rattle.lines.specs.Inner.LinedAs.{Literals, LinedAs}
-use Rattle.lines.specs.declared.body.Lined.TheVariants.{Row, Fault}
+use Rattle.std.specs.Prelude.{Ok, Err}
 use Rattle.lines.specs.declared.kind.Kind.{Kind}
 use Rattle.lines.specs.declared.kind.Kind.TheVariants.{Input, Latch, Output, Gate}
 use Rattle.text.specs.Line.{numbers_of}
@@ -22,12 +25,12 @@ use Rattle.text.specs.Rules.{Rule, first_of, bad_own, input_rule, latch_rule, ou
 use Rattle.fields.proofs.Laws.Truth.{or-false}
 
 -- a line without its numbers
-lined_malformed : (largest : ℕ) (rule : Rule) (marks line : List ℕ) → numbers_of rule.count line ≡ none → LinedAs largest rule marks line (Fault 4)
+lined_malformed : (largest : ℕ) (rule : Rule) (marks line : List ℕ) → numbers_of rule.count line ≡ none → LinedAs largest rule marks line (Err BadLine)
 lined_malformed largest rule marks line e defined place says = judged_malformed rule defined place (numbers_of rule.count line) e
 
 -- a line of a kind has as many numbers as its rule says
 kind_count : (k : Kind) (M : ℕ) → ((form_of k).fewest ≡ (rule_of k M).count) × ((form_of k).most ≡ (rule_of k M).count) × (1 ≤ (form_of k).fewest) ×
-    ((form_of k).most ≤ 5)
+    ((form_of k).most ≤ 3)
 unfolding input_rule latch_rule output_rule gate_rule
 kind_count Input M = (refl, refl, omega arith, omega arith)
 kind_count Latch M = (refl, refl, omega arith, omega arith)
@@ -35,22 +38,34 @@ kind_count Output M = (refl, refl, omega arith, omega arith)
 kind_count Gate M = (refl, refl, omega arith, omega arith)
 
 module _ (k : Kind) (M : ℕ) (marks line : List ℕ) where
-  pub kind_malformed : ((n : ℕ) → 1 ≤ n → n ≤ 5 → numbers_of n line ≡ none) → LinedAs M (rule_of k M) marks line (Fault 4)
+  pub kind_malformed : ((n : ℕ) → 1 ≤ n → n ≤ 5 → numbers_of n line ≡ none) → LinedAs M (rule_of k M) marks line (Err BadLine)
   kind_malformed e =
       let (few, many, least, most) = kind_count k M in
       lined_malformed M (rule_of k M) marks line (e (rule_of k M).count (omega arith) (omega arith))
 
-  module _ (n : ℕ) (numbers : List ℕ) (row : IsRow line 0 n numbers) where
-    other-count : (n ≡ (rule_of k M).count → ⊥) → LinedAs M (rule_of k M) marks line (Fault 4)
-    other-count d =
-        let (few, many, least, most) = kind_count k M in
-        lined_malformed M (rule_of k M) marks line (row.only (rule_of k M).count (omega arith) (λ e. d (sym e)))
+  pub kind_other-count : (n : ℕ) (numbers : List ℕ) → IsRow line 0 n numbers → ((form_of k).fewest ≤ n → n ≤ (form_of k).most → ⊥)
+      → LinedAs M (rule_of k M) marks line (Err BadLine)
+  kind_other-count n numbers row d =
+      let (few, many, least, most) = kind_count k M in
+      lined_malformed M (rule_of k M) marks line (row.only (rule_of k M).count (omega arith) (λ e. d (omega arith) (omega arith)))
 
-    pub kind_few : n < (form_of k).fewest → LinedAs M (rule_of k M) marks line (Fault 4)
-    kind_few h = other-count (λ e. let (few, many, least, most) = kind_count k M in omega arith)
+-- each of three numbers is below a bound that none reaches
+each_below : (M a b c : ℕ) → a < 2 * M + 2 → b < 2 * M + 2 → c < 2 * M + 2 → (i : ℕ) → get_or (a ∷ b ∷ c ∷ []) i 0 < 2 * M + 2
+each_below M a b c x y z zero = x
+each_below M a b c x y z (suc zero) = y
+each_below M a b c x y z (suc (suc zero)) = z
+each_below M a b c x y z (suc (suc (suc i))) = omega arith
 
-    pub kind_many : (form_of k).most < n → LinedAs M (rule_of k M) marks line (Fault 4)
-    kind_many h = other-count (λ e. let (few, many, least, most) = kind_count k M in omega arith)
+-- the first three of five numbers
+front : (m : ℕ) (numbers : List ℕ) → length numbers ≡ 5 → m ≤ 3 → take m numbers ≡ take m (get_or numbers 0 0 ∷ get_or numbers 1 0 ∷ get_or numbers 2 0 ∷ [])
+front zero xs e h = refl
+front (suc zero) (a ∷ xs) e h = refl
+front (suc (suc zero)) (a ∷ b ∷ xs) e h = refl
+front (suc (suc (suc zero))) (a ∷ b ∷ c ∷ xs) e h = refl
+front (suc (suc (suc (suc m)))) xs e h = absurd (omega arith)
+front (suc m) [] e h = absurd (omega arith)
+front (suc (suc m)) (a ∷ []) e h = absurd (omega arith)
+front (suc (suc (suc m))) (a ∷ b ∷ []) e h = absurd (omega arith)
 
 -- the literals of a line, and what they call for
 module _ (M : ℕ) (marks : List ℕ) where
@@ -89,7 +104,7 @@ module _ (M : ℕ) (marks : List ℕ) where
       ∙ ap (λ (x : Bool). first_of x (marked marks a)) (sym (fives a b c))
 
   pub kind_below : (k : Kind) (a b c : ℕ) → ((i : ℕ) → (rule_of k M).count ≤ i → get_or (a ∷ b ∷ c ∷ []) i 0 ≡ 0)
-      → number_or (fault_of (form_of k) M marks a b c) ≡ 0 → Literals M (rule_of k M).count a b c
+      → fault_of (form_of k) M marks a b c ≡ none → Literals M (rule_of k M).count (a ∷ b ∷ c ∷ [])
   unfolding fault_of
   kind_below k a b c others e =
       let five = not_five (((form_of k).defines && bad_own M a) || (too_large M a || (too_large M b || too_large M c))) ((form_of k).defines && marked marks a)
@@ -97,47 +112,39 @@ module _ (M : ℕ) (marks : List ℕ) where
       let (own, large) = neither ((form_of k).defines && bad_own M a) (too_large M a || (too_large M b || too_large M c)) five in
       let (first, rest) = neither (too_large M a) (too_large M b || too_large M c) large in
       let (second, third) = neither (too_large M b) (too_large M c) rest in
-      record { first = literal_below M a first; second = literal_below M b second; third = literal_below M c third; others = others }
+      record { three = refl; each = each_below M a b c (literal_below M a first) (literal_below M b second) (literal_below M c third); others = others }
 
-module _ (k : Kind) (M : ℕ) (marks line : List ℕ) (n a b c d e : ℕ) (row : IsRow line 0 n (a ∷ b ∷ c ∷ d ∷ e ∷ [])) (low : (form_of k).fewest ≤ n)
+-- a line of as many numbers as its kind asks for
+module _ (k : Kind) (M : ℕ) (marks line : List ℕ) (n : ℕ) (numbers : List ℕ) (row : IsRow line 0 n numbers) (low : (form_of k).fewest ≤ n)
     (high : n ≤ (form_of k).most) where
-  count-is : n ≡ (rule_of k M).count
-  count-is = let (few, many, least, most) = kind_count k M in omega arith
+  abbrev three : List ℕ
+  three = get_or numbers 0 0 ∷ get_or numbers 1 0 ∷ get_or numbers 2 0 ∷ []
 
-  others : (i : ℕ) → (rule_of k M).count ≤ i → get_or (a ∷ b ∷ c ∷ []) i 0 ≡ 0
+  count-is : n ≡ (rule_of k M).count
+  count-is = let (fewest, most, least, largest) = kind_count k M in omega arith
+
+  others : (i : ℕ) → (rule_of k M).count ≤ i → get_or three i 0 ≡ 0
   others zero h = row.others 0 (omega (arith, count-is))
   others (suc zero) h = row.others 1 (omega (arith, count-is))
   others (suc (suc zero)) h = row.others 2 (omega (arith, count-is))
   others (suc (suc (suc i))) h = refl
 
-  front : (m : ℕ) → m ≤ 3 → take m (a ∷ b ∷ c ∷ d ∷ e ∷ []) ≡ take m (a ∷ b ∷ c ∷ [])
-  front zero h = refl
-  front (suc zero) h = refl
-  front (suc (suc zero)) h = refl
-  front (suc (suc (suc zero))) h = refl
-  front (suc (suc (suc (suc m)))) h = absurd (omega arith)
+  few : (rule_of k M).count ≤ 3
+  few = let (fewest, most, least, largest) = kind_count k M in omega arith
 
-  few : (q : Kind) → (rule_of q M).count ≤ 3
-  unfolding input_rule latch_rule output_rule gate_rule
-  few Input = omega arith
-  few Latch = omega arith
-  few Output = omega arith
-  few Gate = omega arith
+  are : numbers_of (rule_of k M).count line ≡ some (take (rule_of k M).count three)
+  are = subst (λ (m : ℕ). numbers_of m line ≡ some (take m numbers)) count-is row.is ∙ ap some (front (rule_of k M).count numbers row.five few)
 
-  are : numbers_of (rule_of k M).count line ≡ some (take (rule_of k M).count (a ∷ b ∷ c ∷ []))
-  are = subst (λ (m : ℕ). numbers_of m line ≡ some (take m (a ∷ b ∷ c ∷ d ∷ e ∷ []))) count-is row.is ∙ ap some (front (rule_of k M).count (few k))
+  pub kind_faulty : (fault : Fault) → some (number_of fault) ≡ fault_of (form_of k) M marks (get_or numbers 0 0) (get_or numbers 1 0) (get_or numbers 2 0)
+      → LinedAs M (rule_of k M) marks line (Err fault)
+  kind_faulty fault says defined place m =
+      judged_faulty (rule_of k M) defined place (numbers_of (rule_of k M).count line) (take (rule_of k M).count three) are (number_of fault)
+      (kind_fault M marks k defined m _ _ _ others ∙ sym says)
 
-  pub kind_faulty : (number : ℕ) → number ≡ number_or (fault_of (form_of k) M marks a b c) → (number ≡ 0 → ⊥) → LinedAs M (rule_of k M) marks line
-      (Fault number)
-  unfolding fault_of
-  kind_faulty number says h defined place m =
-      judged_faulty (rule_of k M) defined place (numbers_of (rule_of k M).count line) (take (rule_of k M).count (a ∷ b ∷ c ∷ [])) are number
-      (kind_fault M marks k defined m a b c others ∙ some_of _ _ (λ z. h (says ∙ z)) ∙ ap some (sym says))
-
-  pub kind_row : number_or (fault_of (form_of k) M marks a b c) ≡ 0 → LinedAs M (rule_of k M) marks line (Row a b c)
-  unfolding fault_of
+  pub kind_row : fault_of (form_of k) M marks (get_or numbers 0 0) (get_or numbers 1 0) (get_or numbers 2 0) ≡ none
+      → LinedAs M (rule_of k M) marks line (Ok three)
   kind_row z = (
-    λ defined place m. judged_fine (rule_of k M) defined place (numbers_of (rule_of k M).count line) (take (rule_of k M).count (a ∷ b ∷ c ∷ [])) are
-        (kind_fault M marks k defined m a b c others ∙ none_of _ _ z),
-    kind_below M marks k a b c others z,
+    λ defined place m. judged_fine (rule_of k M) defined place (numbers_of (rule_of k M).count line) (take (rule_of k M).count three) are
+        (kind_fault M marks k defined m _ _ _ others ∙ z),
+    kind_below M marks k _ _ _ others z,
   )

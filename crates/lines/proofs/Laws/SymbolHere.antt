@@ -1,23 +1,21 @@
 -- A symbol from what the code finds in its line. Assumes nothing.
-use Prim.Native.Nat.{ℕ, ◌+◌, ◌<◌, ◌≤◌}
+use Prim.Native.Nat.{ℕ, zero, suc, ◌+◌, ◌<◌, ◌≤◌}
 use native.Mathlib.Omega.{arith}
 use mathlib.Core.Bool.{Bool, true, false, cond, ◌&&◌, true≢false}
 use mathlib.Core.List.{List, [], ◌∷◌}
-use mathlib.Core.Option.{Option, none}
+use mathlib.Core.Option.{none}
 use mathlib.Core.Path.{◌≡◌, refl, sym, ap, ap₂, ◌∙◌, subst}
 use lib.Dec.{eqb}
 use lib.ListN.{length, get_or, drop}
 use lib.Seq.{drop-drop, drop-cons}
 use borrow.Author.Tests.{eq-eqb, eqb-true, lt-ltb, le-ltb}
 use Rattle.bits.specs.Bytes.{starts_with}
-use Rattle.lines.specs.declared.symbol.Symboled.{Symboled}
-use Rattle.lines.specs.declared.symbol.Symboled.TheVariants.{Comment, Of, Bad}
 use Rattle.text.specs.Header.{Header}
 use Rattle.text.specs.Number.{is, bad, number, run}
-use Rattle.text.specs.Symbol.{Symbol, input_letter, prefix, is_name_byte, names, positions, symbol_at, symbol_of, is_comment, is_controllable_name}
+use Rattle.text.specs.Symbol.{Symbol, input_letter, prefix, is_name_byte, names, positions, symbol_at, symbol_of, is_controllable_name}
 use Rattle.lines.specs.Inner.Named.{Named, slot_of}
 use Rattle.fields.specs.Inner.WellNamed.{well_named}
-use Rattle.lines.specs.Inner.SymboledAs.{IsSymbol, SymbolAt, SymbolAs}
+use Rattle.lines.specs.Inner.SymboledAs.{IsSymbol}
 use Rattle.fields.proofs.Laws.Truth.{and_true}
 
 -- each byte of a string passes
@@ -41,6 +39,10 @@ starts-run p (a ∷ ps) (b ∷ t) h = by (p b) refl (eqb a b) refl (starts-run p
 controllable_bytes : AllPass is_name_byte prefix
 unfolding is_name_byte
 controllable_bytes = (refl, (refl, (refl, (refl, (refl, (refl, (refl, (refl, (refl, (refl, (refl, (refl, (refl, tt)))))))))))))
+
+pub more_than_none : (n : ℕ) → eqb n 0 ≡ false → 0 < n
+more_than_none zero e = absurd (true≢false e)
+more_than_none (suc n) e = omega arith
 
 -- a line begins with its letter
 module _ (h : Header) (seen : List Symbol) (line : List ℕ) (nonempty : 0 < length line) where
@@ -75,7 +77,7 @@ module _ (h : Header) (marks : List ℕ) (letter position : ℕ) (line : List �
 
     pub symbol_here : eqb (get_or marks (slot_of h letter position) 0) 1 ≡ false → (slot : ℕ) (flag : Bool) → slot ≡ slot_of h letter position
         → flag ≡ (eqb letter input_letter && starts_with prefix (drop (next + 1) line))
-        → IsSymbol h (symbol_at h seen letter position (drop next line)) slot position flag
+        → IsSymbol h (symbol_at h seen letter position (drop next line)) (record { slot = slot; position = position; controls = flag })
     unfolding symbol_at well_named Named names is_controllable_name
     symbol_here e slot flag s f =
         record {
@@ -88,11 +90,3 @@ module _ (h : Header) (marks : List ℕ) (letter position : ℕ) (line : List �
               ∙ ap (λ (x : Bool). eqb letter input_letter && x) (sym (eq-eqb position position refl)))
               (sym (starts-run is_name_byte prefix (drop 1 (drop next line)) controllable_bytes ∙ ap (starts_with prefix) (drop-drop 1 next line)));
         }
-
--- from behind the number to the whole line
-pub symbol_whole : (h : Header) (marks : List ℕ) (letter position : ℕ) (text line : List ℕ) (r : Symboled) → SymbolAt h marks letter position text r
-    → is_comment line ≡ false → ((seen : List Symbol) → symbol_of h seen line ≡ symbol_at h seen letter position text) → SymbolAs h marks line r
-symbol_whole h marks letter position text line Comment k c e = absurd k
-symbol_whole h marks letter position text line (Of slot at flag) k c e =
-    (c, λ seen says. subst (λ (o : Option Symbol). IsSymbol h o slot at flag) (sym (e seen)) (k seen says))
-symbol_whole h marks letter position text line Bad k c e = (c, λ seen says. e seen ∙ k seen says)

@@ -1,40 +1,29 @@
 -- Verdict, counts and lines, one behind the other, are the text of what the solver answers. Assumes nothing.
-use Prim.Native.Nat.{ℕ, ◌^◌, ◌≤◌, min}
-use native.Mathlib.Omega.{arith}
-use mathlib.Core.Bool.{Bool, true, false}
+use Prim.Native.Nat.{ℕ}
+use mathlib.Core.Bool.{true, false}
 use mathlib.Core.List.{List, [], ◌∷◌}
-use mathlib.Core.Path.{◌≡◌, sym, ◌∙◌, subst, subst₂}
-use lib.Pow.{pow_mono}
+use mathlib.Core.Path.{◌≡◌}
 use Rattle.bits.specs.InTurn.{in_turn}
-use Rattle.bits.specs.Wrote.{Wrote}
-use Rattle.bits.proofs.Laws.Wrote.{wrote_both}
-use Rattle.circuit.specs.Limits.{base}
-use Rattle.solver.specs.declared.counts.Counts.{Counts}
+use Rattle.circuit.specs.declared.counts.Counts.{Counts}
+use Rattle.page.specs.Added.{Added}
+use Rattle.page.specs.declared.Page.{Page}
+use Rattle.page.proofs.Laws.Added.{added_both}
+use Rattle.solver.specs.declared.Solution.{Solution}
 use Rattle.text.specs.Written.{number_line}
 use Rattle.listing.specs.Page.{verdict_word}
 use Rattle.listing.specs.Inner.SolvedText.{inside, reply_text, attack_text, numbers, solved_text}
 
-pub few_numbers : (n m : ℕ) → m ≡ numbers n → m ≤ 2 ^ base.latches
-few_numbers n m e = omega (arith, e, pow_mono {i = min n base.latches} {j = base.latches} (omega arith))
-
-module _ (n : Counts) (ranks replies attacks : List ℕ) {realizable : Bool} {states p q next : ℕ} {before l₁ l₂ after : List ℕ} where
-  pub wrote_realizable :
-      {readings : ℕ} → realizable ≡ inside ranks 0 → realizable ≡ true → Wrote (verdict_word realizable) 0 before l₁ p
-      → Wrote (number_line (n.latches ∷ n.uncontrollable ∷ n.controllable ∷ [])) p l₁ l₂ q → states ≡ numbers n.latches
-      → readings ≡ numbers n.uncontrollable → Wrote (in_turn (reply_text ranks replies readings) states) q l₂ after next
-      → Wrote (solved_text n ranks replies attacks) 0 before after next
+module _ (n : Counts) (solution : Solution) {word : List ℕ} {states : ℕ} {p q r s : Page} where
+  pub added_realizable :
+      inside solution.ranks 0 ≡ true → word ≡ verdict_word true → states ≡ numbers n.latches → Added word p q
+      → Added (number_line (n.latches ∷ n.readings ∷ n.controls ∷ [])) q r → Added (in_turn (reply_text solution (numbers n.readings)) states) r s
+      → Added (solved_text n solution) p s
   unfolding solved_text
-  wrote_realizable e t w v s r u =
-      rw (sym e ∙ t)
-      (wrote_both (wrote_both (subst (λ (b : Bool). Wrote (verdict_word b) 0 before l₁ p) t w) v)
-      (subst₂ (λ (i j : ℕ). Wrote (in_turn (reply_text ranks replies i) j) q l₂ after next) r s u))
+  added_realizable t e f a b c = rw (t, ← e, ← f) (added_both (added_both a b) c)
 
-  pub wrote_unrealizable :
-      realizable ≡ inside ranks 0 → realizable ≡ false → Wrote (verdict_word realizable) 0 before l₁ p
-      → Wrote (number_line (n.latches ∷ n.uncontrollable ∷ n.controllable ∷ [])) p l₁ l₂ q → states ≡ numbers n.latches
-      → Wrote (in_turn (attack_text ranks attacks) states) q l₂ after next → Wrote (solved_text n ranks replies attacks) 0 before after next
+  pub added_unrealizable :
+      inside solution.ranks 0 ≡ false → word ≡ verdict_word false → states ≡ numbers n.latches → Added word p q
+      → Added (number_line (n.latches ∷ n.readings ∷ n.controls ∷ [])) q r → Added (in_turn (attack_text solution) states) r s
+      → Added (solved_text n solution) p s
   unfolding solved_text
-  wrote_unrealizable e t w v s u =
-      rw (sym e ∙ t)
-      (wrote_both (wrote_both (subst (λ (b : Bool). Wrote (verdict_word b) 0 before l₁ p) t w) v)
-      (subst (λ (j : ℕ). Wrote (in_turn (attack_text ranks attacks) j) q l₂ after next) s u))
+  added_unrealizable t e f a b c = rw (t, ← e, ← f) (added_both (added_both a b) c)

@@ -8,16 +8,17 @@ use mathlib.Core.List.{List, [], ◌∷◌, ◌++◌, flat_map}
 use mathlib.Core.Path.{◌≡◌, refl, ap, ◌∙◌}
 use lib.ListN.{length, drop, length-append}
 use lib.Pow.{pow_mono}
+use Rattle.std.specs.Prelude.{Result}
 use Rattle.below.specs.Least.{least}
 use Rattle.below.specs.Table.{table}
 use Rattle.below.proofs.Laws.Least.{least_le}
 use Rattle.bits.specs.Bit.{one_if}
 use Rattle.bits.specs.InTurn.{in_turn}
-use Rattle.circuit.specs.Answer.{written_outcome, fitted, count_of, buffer_after}
+use Rattle.circuit.specs.Answer.{outcome_of, fitted, count_of, buffer_after}
 use Rattle.circuit.specs.Circuit.{Circuit, latch_count, uncontrollable_count, controllable_count}
 use Rattle.circuit.specs.Limits.{base}
 use Rattle.circuit.specs.Outcome.{Outcome, taken, refused}
-use Rattle.circuit.specs.declared.Written.{Written}
+use Rattle.circuit.specs.declared.numbers.Refusal.{Refusal}
 use Rattle.circuit.proofs.Laws.Answer.{fitted_taken}
 use Rattle.decimal.proofs.Laws.InTurn.{flat_map_table}
 use Rattle.file.specs.CircuitIn.{circuit_in}
@@ -30,11 +31,10 @@ use Rattle.game.specs.Listing.{reply_line, attack_line, listing_of}
 use Rattle.game.specs.Rank.{rank, in_region, defeats}
 use Rattle.game.specs.Reply.{reply}
 use Rattle.game.proofs.Laws.Rank.{rank_at-most}
-use Rattle.text.specs.Number.{decimal}
+use Rattle.page.specs.Field.{field}
 use Rattle.text.specs.Written.{number_line}
 use Rattle.text.proofs.Laws.Decimal.{length-decimal-most}
 use Rattle.listing.specs.Page.{PageAs, verdict_word, listing_text, refusal_text, page_for, page_of}
-use Rattle.listing.specs.Inner.SolvedText.{field}
 use Rattle.listing.proofs.Laws.Line.{line_table}
 use Rattle.listing.proofs.Laws.Place.{refusal_small}
 
@@ -46,32 +46,17 @@ in_turn-most f width (suc n) most =
     omega (arith, length-append (in_turn f n) (f n), in_turn-most f width n (λ i h. most i (omega arith)), most n (omega arith), mul-suc width n)
 
 field-most : (k n : ℕ) → n < 10 ^ suc k → length (field n) ≤ suc (suc k)
-unfolding field
 field-most k n h = omega (arith, length-decimal-most k n h)
 
 two_most : (a b i j : ℕ) → a < 10 ^ suc i → b < 10 ^ suc j → length (number_line (a ∷ b ∷ [])) ≤ i + j + 4
 unfolding number_line
 two_most a b i j h l =
-    omega (
-      arith,
-      length-append (decimal a) (32 ∷ (decimal b ++ (10 ∷ []))),
-      length-append (decimal b) (10 ∷ []),
-      length-decimal-most i a h,
-      length-decimal-most j b l,
-    )
+    omega (arith, length-append {A = ℕ}, length-decimal-most i a h, length-decimal-most j b l)
 
 three_most : (a b c i j k : ℕ) → a < 10 ^ suc i → b < 10 ^ suc j → c < 10 ^ suc k → length (number_line (a ∷ b ∷ c ∷ [])) ≤ i + j + k + 6
 unfolding number_line
 three_most a b c i j k h l m =
-    omega (
-      arith,
-      length-append (decimal a) (32 ∷ (decimal b ++ (32 ∷ (decimal c ++ (10 ∷ []))))),
-      length-append (decimal b) (32 ∷ (decimal c ++ (10 ∷ []))),
-      length-append (decimal c) (10 ∷ []),
-      length-decimal-most i a h,
-      length-decimal-most j b l,
-      length-decimal-most k c m,
-    )
+    omega (arith, length-append {A = ℕ}, length-decimal-most i a h, length-decimal-most j b l, length-decimal-most k c m)
 
 one_if-most : (b : Bool) → one_if b < 10
 unfolding one_if
@@ -106,10 +91,7 @@ module _ (g : Game) (states : g.states ≤ 1024) (readings : g.readings ≤ 32) 
       in_turn-most (λ r. field (reply g s r)) 4 g.readings (λ r l. field-most 2 (reply g s r) (omega (arith, reply-most g s r))) in
       omega (
         arith,
-        ap length (line_table s (one_if (in_region g s)) (reply g s) g.readings),
-        length-append (decimal s) (field (one_if (in_region g s)) ++ (in_turn (λ r. field (reply g s r)) g.readings ++ (10 ∷ []))),
-        length-append (field (one_if (in_region g s))) (in_turn (λ r. field (reply g s r)) g.readings ++ (10 ∷ [])),
-        length-append (in_turn (λ r. field (reply g s r)) g.readings) (10 ∷ []),
+        simp length-append at (ap length (line_table s (one_if (in_region g s)) (reply g s) g.readings)),
         length-decimal-most 3 s (omega arith),
         field-most 0 (one_if (in_region g s)) (one_if-most (in_region g s)),
       )
@@ -129,7 +111,7 @@ module _ (g : Game) (states : g.states ≤ 1024) (readings : g.readings ≤ 32) 
       (arith, ap length (flat_map_table number_line (attack_line g) g.states), in_turn-most (λ s. number_line (attack_line g s)) 13 g.states attack_line-most)
 
 lengths : (a b d : List ℕ) → length (a ++ b ++ d) ≡ length a + length b + length d
-lengths a b d = omega (arith, length-append (a ++ b) d, length-append a b)
+lengths a b d = omega (arith, length-append {A = ℕ})
 
 module _ (c : Circuit) where
   abbrev counts_line : List ℕ
@@ -177,8 +159,8 @@ longest_page file = by (circuit_in file) refl
 
 -- given that much room, the page stands at the front, whatever the file
 pub room_lists :
-    (file before after : List ℕ) (r : Written) → 138258 ≤ length before → PageAs (page_of file) before after r
-    → (written_outcome r ≡ taken (length (page_of file))) × (after ≡ page_of file ++ drop (length (page_of file)) before)
+    (file before after : List ℕ) (r : Result ℕ Refusal) → 138258 ≤ length before → PageAs (page_of file) before after r
+    → (outcome_of r ≡ taken (length (page_of file))) × (after ≡ page_of file ++ drop (length (page_of file)) before)
 unfolding count_of buffer_after
 room_lists file before after r room w =
     let fits : fitted (page_of file) (length before) ≡ taken (page_of file) = fitted_taken (page_of file) (length before) (omega (arith, longest_page file)) in

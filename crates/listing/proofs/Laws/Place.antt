@@ -7,14 +7,14 @@ use mathlib.Core.List.{List, [], ◌∷◌, ◌++◌, map}
 use mathlib.Core.Logic.{◌⊎◌, inl, inr}
 use mathlib.Core.Path.{◌≡◌, refl, ap}
 use lib.Dec.{eqb}
-use lib.ListN.{length, drop, replicate, length-append, length-drop, length-map, length-replicate}
+use lib.ListN.{length, drop, length-append, length-drop, length-map, length-replicate}
 use Rattle.circuit.specs.Limits.{base}
 use Rattle.circuit.specs.Outcome.{refused}
 use Rattle.file.specs.CircuitIn.{circuit_in}
 use Rattle.text.specs.BodyBroken.{gates_on, BodyBroken, in_lines, in_use, in_circle, in_symbols}
 use Rattle.text.specs.FirstFault.{AllRight, FirstFault}
 use Rattle.text.specs.Header.{Header}
-use Rattle.text.specs.Kind.{Kind, an_input, a_latch, the_output, a_gate, kinds, defined_by, used_by_all, gate_of}
+use Rattle.text.specs.Kind.{Kind, kinds, defined_by, used_by_all, gate_of}
 use Rattle.text.specs.Line.{before, lines}
 use Rattle.text.specs.Numbers.{bad_symbol, gate_circle}
 use Rattle.text.specs.Row.{Row, one, two, three, four_to_eight, nine}
@@ -64,14 +64,7 @@ right_long M (k ∷ ks) defined ls (fs ∷ rows) w = ap suc (right_long M ks (de
 module _ (h : Header) (rest : List (List ℕ)) where
   kinds_long : length (kinds h) ≡ h.inputs + h.latches + 1 + h.gates
   kinds_long =
-      omega (
-        arith,
-        length-append (replicate h.inputs an_input) (replicate h.latches a_latch ++ (the_output ∷ replicate h.gates a_gate)),
-        length-append (replicate h.latches a_latch) (the_output ∷ replicate h.gates a_gate),
-        length-replicate h.inputs an_input,
-        length-replicate h.latches a_latch,
-        length-replicate h.gates a_gate,
-      )
+      omega (arith, length-append {A = Kind}, length-replicate {A = Kind})
 
   gates_few : (rows : List (List ℕ)) → AllRight h.largest (kinds h) [] rest rows → length (gates_on h rows) ≡ h.gates
   gates_few rows r =

@@ -2,16 +2,10 @@
 use Rattle.listing.proofs.Laws.Front.{front_listed, front_refused}
 use Rattle.listing.proofs.list.Goals as goal
 
-pub returns-in-Refused : goal.returns-in-Refused
-returns-in-Refused c =
-    let a = c.args in
-    let r = c.read-read in
-    front_refused a.file.now r.result r.ensures a.out.now _ _ _ c.in-Refused.is
-    c.list_refusal.ensures
+pub returns-in-Ok : goal.returns-in-Ok
+returns-in-Ok c =
+    front_listed c.args.file.now c.read.result c.read.ensures c.args.out.now _ _ c.in-Ok.circuit _ c.counts-counts.result c.solve-solution.result c.in-Ok.is
+    c.lent.ensures c.counts-counts.ensures c.solve-solution.ensures c.fit.ensures
 
-pub returns-in-Taken : goal.returns-in-Taken
-returns-in-Taken c =
-    let a = c.args in
-    let r = c.read-read in
-    front_listed a.file.now r.result r.ensures a.out.now _ _ c.in-Taken.is
-    c.list_circuit.ensures
+pub returns-in-Err : goal.returns-in-Err
+returns-in-Err c = front_refused c.args.file.now c.read.result c.read.ensures c.args.out.now _ _ c.in-Err.refusal c.in-Err.is c.fit-in-Err.ensures

@@ -5,36 +5,32 @@ use Rattle.below.specs.Table.{table}
 use Rattle.bits.specs.Bit.{one_if}
 use Rattle.bits.specs.InTurn.{in_turn}
 use Rattle.circuit.specs.Limits.{base}
+use Rattle.circuit.specs.declared.counts.Counts.{Counts}
 use Rattle.keeping.specs.RankList.{ranks_in}
-use Rattle.solver.specs.declared.counts.Counts.{Counts}
-use Rattle.text.specs.Number.{decimal}
+use Rattle.solver.specs.declared.Solution.{Solution}
 use Rattle.text.specs.Written.{number_line}
 use Rattle.listing.specs.Page.{verdict_word}
-
--- a number behind a space
-unfoldable pub field : ℕ → List ℕ
-field n = 32 ∷ decimal n
 
 -- a state is in the region if its rank is 0
 unfoldable pub inside : (ranks : List ℕ) → (state : ℕ) → Bool
 inside ranks s = eqb (ranks_in ranks s) 0
 
 -- the line of a state: its number, 1 or 0 for in or out, the replies by reading; or its number, rank and attack
-unfoldable pub reply_text : (ranks replies : List ℕ) → (readings state : ℕ) → List ℕ
-reply_text ranks replies readings s =
-    number_line (s ∷ one_if (inside ranks s) ∷ table (λ r. get_or replies (s * readings + r) 0) readings)
+unfoldable pub reply_text : Solution → (readings state : ℕ) → List ℕ
+reply_text solution readings s =
+    number_line (s ∷ one_if (inside solution.ranks s) ∷ table (λ r. get_or solution.replies (s * readings + r) 0) readings)
 
-unfoldable pub attack_text : (ranks attacks : List ℕ) → (state : ℕ) → List ℕ
-attack_text ranks attacks s = number_line (s ∷ ranks_in ranks s ∷ get_or attacks s 0 ∷ [])
+unfoldable pub attack_text : Solution → (state : ℕ) → List ℕ
+attack_text solution s = number_line (s ∷ ranks_in solution.ranks s ∷ get_or solution.attacks s 0 ∷ [])
 
 -- how many numbers so many bits make, of as many bits as a state may have
 abbrev pub numbers : ℕ → ℕ
 numbers n = 2 ^ min n base.latches
 
-unfoldable pub solved_text : Counts → (ranks replies attacks : List ℕ) → List ℕ
-solved_text n ranks replies attacks =
-    verdict_word (inside ranks 0)
-    ++ number_line (n.latches ∷ n.uncontrollable ∷ n.controllable ∷ [])
-    ++ cond (inside ranks 0)
-    (in_turn (reply_text ranks replies (numbers n.uncontrollable)) (numbers n.latches))
-    (in_turn (attack_text ranks attacks) (numbers n.latches))
+unfoldable pub solved_text : Counts → Solution → List ℕ
+solved_text n solution =
+    verdict_word (inside solution.ranks 0)
+    ++ number_line (n.latches ∷ n.readings ∷ n.controls ∷ [])
+    ++ cond (inside solution.ranks 0)
+    (in_turn (reply_text solution (numbers n.readings)) (numbers n.latches))
+    (in_turn (attack_text solution) (numbers n.latches))

@@ -13,15 +13,15 @@ use Rattle.bits.specs.Bit.{one_if}
 use Rattle.bits.specs.ByteBit.{byte_bit}
 use Rattle.below.specs.Among.{member}
 use Rattle.bits.specs.Digits.{AllBelow}
-use Rattle.circuit.specs.Answer.{ReadAs, read_outcome, WrittenAs, written_outcome, count_of, buffer_after}
+use Rattle.std.specs.Prelude.{Result, Ok}
+use Rattle.circuit.specs.Answer.{outcome_of, ReadAs, WrittenAs, count_of, buffer_after}
 use Rattle.circuit.specs.Circuit.{Circuit, Gate, latch_count, uncontrollable_count, controllable_count, too_many}
 use Rattle.circuit.specs.Limits.{base}
 use Rattle.circuit.specs.Outcome.{taken, refused}
 use Rattle.circuit.specs.Reset.{is_reset}
 use Rattle.circuit.specs.Stored.{meant, solvable}
-use Rattle.circuit.specs.declared.FileRead.{FileRead}
-use Rattle.circuit.specs.declared.Read.TheVariants.{Taken}
-use Rattle.circuit.specs.declared.Written.{Written}
+use Rattle.circuit.specs.declared.Circuit.{Circuit as Value}
+use Rattle.circuit.specs.declared.numbers.Refusal.{Refusal}
 use Rattle.circuit.proofs.Laws.Answer.{read_decided, written_decided, refused_writes_nothing}
 use Rattle.text.specs.Above.{Operands}
 use Rattle.text.specs.InList.{All, Pairs}
@@ -59,12 +59,15 @@ use Rattle.solver.specs.RankTable.{rank_table}
 use Rattle.solver.proofs.Laws.RankTable.{rank_in_table}
 use Rattle.records.specs.AttackTable.{stored_rank, stored_attack}
 use Rattle.records.specs.CircuitRecord.{circuit_record}
+use Rattle.records.specs.Kinds.{reply_kind_number}
 use Rattle.records.specs.PackedReplies.{packed_reply, packed_reply_bytes}
 use Rattle.records.specs.Passed.{reply_in}
 use Rattle.records.specs.Record.{reply_kind, packed_kind}
 use Rattle.records.specs.RegionBits.{region_length, holds_state}
 use Rattle.records.specs.ReplyBytes.{byte_reply, reply_bytes}
 use Rattle.records.specs.ReplyTable.{stored_reply}
+use Rattle.records.specs.declared.kinds.ReplyKind.{ReplyKind}
+use Rattle.records.specs.declared.kinds.ReplyKind.TheVariants.{Bytes, Packed}
 use Rattle.records.proofs.Laws.PackedReplies.{packed_reads_as_bytes as packed-as-bytes}
 use Rattle.file.specs.CircuitIn.{circuit_in}
 use Rattle.file.specs.WriterRow.{WriterRow}
@@ -76,7 +79,7 @@ use Rattle.printer.specs.FilePrinted.{file_printed}
 use Rattle.printer.proofs.Laws.ReadsBack.{print_reads_back, count_refused_exactly, print_refused_exactly}
 use Rattle.checker.specs.Answer.{Starts, of_replies, of_attacks, answer_of, checked_outcome}
 use Rattle.checker.specs.CheckRow.{CheckRow}
-use Rattle.checker.specs.declared.Checked.{Checked}
+use Rattle.checker.specs.declared.Passed.{Passed}
 use Rattle.checker.proofs.Laws.Answer.{same_outcome_same_answer}
 use Rattle.checker.proofs.Laws.Exact.{check_refused_exactly}
 use Rattle.checker.proofs.Laws.Numbered.{check_numbered}
@@ -138,81 +141,81 @@ use Rattle.mission.proofs.Laws.InOrder.{read_in_order}
 --
 -- "A file or table of any content gets the numbered reply that its faults call for." Each refusal has its row in the table of numbers, and each
 -- row is refused so: of the reader, of the checker, of the writer of certificates and of the printer.
-pub reader_refuses_exactly : (file : List ℕ) (r : FileRead) (number place : ℕ) → ReadAs (circuit_in file) r
-    → (read_outcome r.answer ≡ refused number place) ↔ Row base file number place
+pub reader_refuses_exactly : (file : List ℕ) (r : Result Value Refusal) (number place : ℕ) → ReadAs (circuit_in file) r
+    → (outcome_of r ≡ refused number place) ↔ Row base file number place
 unfolding circuit_in
 reader_refuses_exactly file r number place w = (
   λ e. (refused_exactly base file number place).0 ((reader_refused_exactly file r number place w).0 e),
   λ t. (reader_refused_exactly file r number place w).1 ((refused_exactly base file number place).1 t),
 )
 
-pub checker_refuses_exactly : (file certificate : List ℕ) (a : Checked) (number place : ℕ) → checked_outcome a ≡ answer_of file certificate
+pub checker_refuses_exactly : (file certificate : List ℕ) (a : Result Passed Refusal) (number place : ℕ) → checked_outcome a ≡ answer_of file certificate
     → (checked_outcome a ≡ refused number place) ↔ CheckRow file certificate number place
 checker_refuses_exactly file certificate a number place w =
     (λ e. (check_refused_exactly file certificate number place).0 (sym w ∙ e), λ t. w ∙ (check_refused_exactly file certificate number place).1 t)
 
 pub writer_refuses_exactly :
-    (kind : ℕ) (file before after : List ℕ) (r : Certified) (number place : ℕ) → CertifiedAs kind file (circuit_in file) before after r
+    (kind : ℕ) (file before after : List ℕ) (r : Result Certified Refusal) (number place : ℕ) → CertifiedAs kind file (circuit_in file) before after r
     → (certified_outcome r ≡ refused number place) ↔ WriterRow file (certificate_of kind file) (length before) number place
 writer_refuses_exactly kind file before after r number place w = certify_refused_exactly kind file before after r number place w
 
-pub printer_refuses_exactly : (file before after : List ℕ) (r : Written) (number place : ℕ)
-    → WrittenAs (file_printed file (length before)) before after r → (written_outcome r ≡ refused number place) ↔ WriterRow file printed (length before)
+pub printer_refuses_exactly : (file before after : List ℕ) (r : Result ℕ Refusal) (number place : ℕ)
+    → WrittenAs (file_printed file (length before)) before after r → (outcome_of r ≡ refused number place) ↔ WriterRow file printed (length before)
     number place
 printer_refuses_exactly file before after r number place w = print_refused_exactly file before after r number place w
 
 -- A refusal's number is one of the table's, and never 0.
 pub reader_numbered :
-    (file : List ℕ) (r : FileRead) (number place : ℕ) → ReadAs (circuit_in file) r → read_outcome r.answer ≡ refused number place
+    (file : List ℕ) (r : Result Value Refusal) (number place : ℕ) → ReadAs (circuit_in file) r → outcome_of r ≡ refused number place
     → (1 ≤ number) × ((number ≤ 9) ⊎ (number ≡ 16))
 reader_numbered file r number place w e = file_numbered file number place ((reader_refused_exactly file r number place w).0 e)
 
 pub checker_numbered :
-    (file certificate : List ℕ) (a : Checked) (number place : ℕ) → checked_outcome a ≡ answer_of file certificate
+    (file certificate : List ℕ) (a : Result Passed Refusal) (number place : ℕ) → checked_outcome a ≡ answer_of file certificate
     → checked_outcome a ≡ refused number place
     → (1 ≤ number) × (number ≤ 16)
 checker_numbered file certificate a number place w e = check_numbered file certificate number place (sym w ∙ e)
 
 pub writer_numbered :
-    (kind : ℕ) (file before after : List ℕ) (r : Certified) (number place : ℕ) → CertifiedAs kind file (circuit_in file) before after r
+    (kind : ℕ) (file before after : List ℕ) (r : Result Certified Refusal) (number place : ℕ) → CertifiedAs kind file (circuit_in file) before after r
     → certified_outcome r ≡ refused number place
     → (1 ≤ number) × ((number ≤ 10) ⊎ (number ≡ 16))
 writer_numbered kind file before after r number place w e =
     row-numbered file (certificate_of kind file) (length before) number place ((certify_refused_exactly kind file before after r number place w).0 e)
 
 pub printer_numbered :
-    (file before after : List ℕ) (r : Written) (number place : ℕ) → WrittenAs (file_printed file (length before)) before after r
-    → written_outcome r ≡ refused number place
+    (file before after : List ℕ) (r : Result ℕ Refusal) (number place : ℕ) → WrittenAs (file_printed file (length before)) before after r
+    → outcome_of r ≡ refused number place
     → (1 ≤ number) × ((number ≤ 10) ⊎ (number ≡ 16))
 printer_numbered file before after r number place w e = row-numbered file printed (length before) number place
     ((print_refused_exactly file before after r number place w).0 e)
 
 -- "no caller has to check first": no promise has a condition on what the call is given, and each decides its answer and its buffer.
-pub reader_decided : (file : List ℕ) (r s : FileRead) → ReadAs (circuit_in file) r → ReadAs (circuit_in file) s → r ≡ s
+pub reader_decided : (file : List ℕ) (r s : Result Value Refusal) → ReadAs (circuit_in file) r → ReadAs (circuit_in file) s → r ≡ s
 reader_decided file r s v w = read_decided (circuit_in file) r s v w
 
-pub checker_decided : (file certificate : List ℕ) (a b : Checked) → checked_outcome a ≡ answer_of file certificate
+pub checker_decided : (file certificate : List ℕ) (a b : Result Passed Refusal) → checked_outcome a ≡ answer_of file certificate
     → checked_outcome b ≡ answer_of file certificate → a ≡ b
 checker_decided file certificate a b e f = same_outcome_same_answer a b (e ∙ sym f)
 
 pub writer_decided :
-    (kind : ℕ) (file before l m : List ℕ) (r s : Certified) → CertifiedAs kind file (circuit_in file) before l r
+    (kind : ℕ) (file before l m : List ℕ) (r s : Result Certified Refusal) → CertifiedAs kind file (circuit_in file) before l r
     → CertifiedAs kind file (circuit_in file) before m s → (r ≡ s) × (l ≡ m)
 writer_decided kind file before l m r s v w = certified_decided kind file (circuit_in file) before l m r s v w
 
-pub printer_decided : (file before l m : List ℕ) (r s : Written) → WrittenAs (file_printed file (length before)) before l r
+pub printer_decided : (file before l m : List ℕ) (r s : Result ℕ Refusal) → WrittenAs (file_printed file (length before)) before l r
     → WrittenAs (file_printed file (length before)) before m s → (r ≡ s) × (l ≡ m)
 printer_decided file before l m r s v w = written_decided (file_printed file (length before)) before l m r s v w
 
 -- "a refusal writes nothing into a lent buffer."
 pub writer_refusal_writes_nothing :
-    (kind : ℕ) (file before after : List ℕ) (r : Certified) (number place : ℕ) → CertifiedAs kind file (circuit_in file) before after r
+    (kind : ℕ) (file before after : List ℕ) (r : Result Certified Refusal) (number place : ℕ) → CertifiedAs kind file (circuit_in file) before after r
     → certified_outcome r ≡ refused number place → after ≡ before
 writer_refusal_writes_nothing kind file before after r number place w e =
     refused_certifies_nothing kind file (circuit_in file) before after r number place w e
 
-pub printer_refusal_writes_nothing : (file before after : List ℕ) (r : Written) (number place : ℕ)
-    → WrittenAs (file_printed file (length before)) before after r → written_outcome r ≡ refused number place → after ≡ before
+pub printer_refusal_writes_nothing : (file before after : List ℕ) (r : Result ℕ Refusal) (number place : ℕ)
+    → WrittenAs (file_printed file (length before)) before after r → outcome_of r ≡ refused number place → after ≡ before
 printer_refusal_writes_nothing file before after r number place w e = refused_writes_nothing (file_printed file (length before)) before after r number place w e
 
 -- RULE 2.
@@ -231,9 +234,9 @@ read_exactly file c = (
 pub text_of_one : (f g : TextFile) → WellFormed base f → WellFormed base g → text_of f ≡ text_of g → f ≡ g
 text_of_one f g v w e = written_once f g v w e
 
-pub reader_stores : (file : List ℕ) (r : FileRead) → ReadAs (circuit_in file) r → r.answer ≡ Taken → (c : Circuit) × (circuit_in file ≡ taken c)
-    × (meant r.circuit ≡ c) × (solvable (meant r.circuit) ≡ c)
-reader_stores file r w e = let m = taken_means file r w e in (m.circuit, m.read, m.meant_is, m.solvable-is)
+pub reader_stores : (file : List ℕ) (r : Result Value Refusal) (v : Value) → ReadAs (circuit_in file) r → r ≡ Ok v
+    → (c : Circuit) × (circuit_in file ≡ taken c) × (meant v ≡ c) × (solvable (meant v) ≡ c)
+reader_stores file r v w e = let m = taken_means file r w v e in (m.circuit, m.read, m.meant_is, m.solvable-is)
 
 -- "operands may be any defined variable, evaluation follows dependency" (02, T-01): the gates of the circuit are those of the text's lines, each
 -- behind the gates that it uses. "Step answers for files already taken don't change": where operands stand above their gates (01, rule 4) a file
@@ -351,8 +354,8 @@ module _ (file : List ℕ) (c : Circuit) (reads : circuit_in file ≡ taken c) (
 
 -- "A printed circuit reads back as the same circuit." What a printer counted stands at the front of its buffer; whatever is asked of the circuit
 -- that is read there is answered alike (`Alike`).
-module _ (file : List ℕ) (c : Circuit) (before after : List ℕ) (r : Written) (n : ℕ) (reads : circuit_in file ≡ taken c)
-    (w : WrittenAs (file_printed file (length before)) before after r) (told : written_outcome r ≡ taken n) where
+module _ (file : List ℕ) (c : Circuit) (before after : List ℕ) (r : Result ℕ Refusal) (n : ℕ) (reads : circuit_in file ≡ taken c)
+    (w : WrittenAs (file_printed file (length before)) before after r) (told : outcome_of r ≡ taken n) where
   pub print_read : circuit_in (take n after) ≡ taken c
   print_read = print_reads_back file c reads before after r n w told
 
@@ -415,7 +418,7 @@ never_both file one other region table kind L U C table₂ L₂ U₂ e f =
 -- front of the buffer and is the certificate of the definition, so what rule 2 says of `certificate_of` is said of what was written. 49,298
 -- bytes are room for each, of either kind.
 pub certificate_passes :
-    (kind : ℕ) → Accepted kind → (file : List ℕ) (c : Circuit) (before after : List ℕ) (r : Certified) → circuit_in file ≡ taken c
+    (kind : ℕ) → Accepted kind → (file : List ℕ) (c : Circuit) (before after : List ℕ) (r : Result Certified Refusal) → circuit_in file ≡ taken c
     → CertifiedAs kind file (circuit_in file) before after r → length (certificate_of kind file c) ≤ length before
     → (v : Verdict) × (starts : Starts) × (certified_outcome r ≡ taken v) × (v.realizable ≡ is_realizable c)
     × (v.count ≡ length (certificate_of kind file c)) × (take v.count after ≡ certificate_of kind file c)
@@ -426,6 +429,11 @@ certificate_passes kind accepted file c before after r reads w room =
 
 pub both-kinds : Accepted reply_kind × Accepted packed_kind
 both-kinds = (bytes_accepted, packed_accepted)
+
+-- Those are the kinds that `certify` can be asked for.
+pub each_kind : (kind : ReplyKind) → Accepted (reply_kind_number kind)
+each_kind Bytes = bytes_accepted
+each_kind Packed = packed_accepted
 
 pub room_enough : (kind : ℕ) (file : List ℕ) (c : Circuit) → circuit_in file ≡ taken c → length (certificate_of kind file c) ≤ 49298
 room_enough kind file c reads = longest_certificate kind file c reads

@@ -10,14 +10,9 @@ use Rattle.circuit.proofs.Laws.Inputs.{inputs_parted}
 use Rattle.net.specs.InOrder.{InOrder, GatesInOrder}
 use Rattle.net.specs.Net.{net_operands, net_latches, move_bits}
 use Rattle.net.specs.NetOf.{net_literal, operands_of, first_names, all_names, gate_start, net_of}
+pub use Rattle.net.proofs.Laws.Room.{Room}
 use Rattle.net.proofs.Laws.Names.{literal_before, operands_in_order, nexts_before}
 use Rattle.net.proofs.Laws.NetStep.{net_latches_lem, net_output_lem, net_move_bits, net_nexts_lem, net_operands_lem, first_below, all_below}
-
--- as many inputs, latches and gates as the code's lists have room for
-pub record Room (c : Circuit) : Type 0 where
-  pub inputs : length c.inputs ≤ base.inputs
-  pub latches : length c.latches ≤ base.latches
-  pub gates : length c.gates ≤ base.variable
 
 pub start_within : (c : Circuit) → Room c → gate_start c ≤ 1 + base.inputs + base.latches
 unfolding gate_start latch_count uncontrollable_count controllable_count

@@ -1,12 +1,12 @@
 -- The bits of a move: the control's, then the reading's, then the state's; and the variables that stand for them. Assumes nothing.
-use Prim.Native.Nat.{ℕ, suc, ◌+◌, ◌*◌, ◌-◌, ◌/◌, ◌%◌, ◌^◌, ◌<◌}
+use Prim.Native.Nat.{ℕ, suc, ◌+◌, ◌*◌, ◌-◌, ◌/◌, ◌%◌, ◌^◌, ◌<◌, ◌≤◌}
 use native.Mathlib.Omega.{arith}
 use native.Mathlib.Nat.{mod-lt}
 use mathlib.Core.Bool.{false}
 use mathlib.Core.Path.{◌≡◌, refl, sym, ap, ◌∙◌}
 use lib.Dec.{eqb}
 use lib.Arith.{digits_lt}
-use lib.Pow.{pow_pos, pow-lt, pow-add, shl_exact, shr-shr, high, low}
+use lib.Pow.{pow_pos, pow-add, shl_exact, shr-shr, high, low}
 use borrow.Author.Tests.{le-leb}
 use Rattle.bits.specs.Bit.{bit, odd}
 use Rattle.bits.proofs.Laws.Bit.{bit_mod}
@@ -60,15 +60,18 @@ pub with_move_none : (n move : ℕ) → with_move n move 0 ≡ false
 unfolding with_move
 with_move_none n move = refl
 
--- a move as code makes it: nothing is lost by a shift of so few bits
-pub shift_joins : (j k h m : ℕ) → h < 2 ^ j → j + k < 64 → h * 2 ^ k % 18446744073709551616 + m ≡ h * 2 ^ k + m
-shift_joins j k h m l f = ap (λ (x : ℕ). x + m) (shl_exact j k 64 l (omega arith))
-
 pub join_below : (j k h m : ℕ) → h < 2 ^ j → m < 2 ^ k → h * 2 ^ k + m < 2 ^ (j + k)
 join_below j k h m l f = omega (arith, digits_lt {q = h} {m = 2 ^ j} {r = m} {c = 2 ^ k} l f, pow-add 2 j k)
 
-pub power_fits : (n x : ℕ) → x < 2 ^ n → n < 64 → x < 18446744073709551616
-power_fits n x l h = omega (arith, pow-lt {i = n} {j = 64} h)
+-- a move as code makes it: nothing is lost by shifts of so few bits
+pub move_made : (L U C s r k : ℕ) → L + U + C ≤ 64
+    → (s % 2 ^ L * 2 ^ U % 18446744073709551616 + r % 2 ^ U) * 2 ^ C % 18446744073709551616 + k % 2 ^ C ≡ move_of L U C s r k
+unfolding move_of
+move_made L U C s r k few =
+    rw (
+      shl_exact L U 64 (mod-lt s (pow_pos L)) (omega arith),
+      shl_exact (L + U) C 64 (join_below L U (s % 2 ^ L) (r % 2 ^ U) (mod-lt s (pow_pos L)) (mod-lt r (pow_pos U))) few,
+    )
 
 pub lowest_below : (n w : ℕ) → n % 2 ^ w < 2 ^ w
 lowest_below n w = mod-lt n (pow_pos w)

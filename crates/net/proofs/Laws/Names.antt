@@ -1,32 +1,23 @@
 -- What holds of names: each is below the next variable, so each literal names one that stands before it. Assumes nothing.
-use Prim.Native.Nat.{ℕ, zero, suc, ◌+◌, ◌*◌, ◌/◌, ◌%◌, ◌<◌, ◌≤◌}
+use Prim.Native.Nat.{ℕ, suc, ◌+◌, ◌*◌, ◌/◌, ◌%◌, ◌<◌, ◌≤◌}
 use native.Mathlib.Omega.{arith}
 use native.Mathlib.Decide.{dec_lt}
 use mathlib.Core.Bool.{Bool, true, false, cond, not}
 use mathlib.Core.List.{List, [], ◌∷◌, map}
-use mathlib.Core.Logic.{◌≢◌}
-use mathlib.Core.Path.{◌≡◌, refl, ap}
+use mathlib.Core.Path.{◌≡◌, ap}
 use lib.Dec.{eqb, ltb}
 use lib.ListN.{length}
-use borrow.Author.Tests.{eq-eqb, ne_eqb, lt-ltb, le-ltb}
-use Rattle.bits.specs.Bit.{odd, one_if}
+use borrow.Author.Tests.{lt-ltb, le-ltb}
+use Rattle.bits.specs.Bit.{one_if}
 use Rattle.circuit.specs.Circuit.{Input, Latch, Gate, inputs_that}
 use Rattle.circuit.specs.Literal.{variable, inverted, constant}
-use Rattle.step.proofs.Laws.Truths.{one_if-bit}
+use Rattle.step.proofs.Laws.Truths.{one_if-bit, one_if-odd}
 use Rattle.net.specs.InOrder.{AllBefore, GatesInOrder}
 use Rattle.net.specs.NetOf.{Names, name, net_literal, name_inputs, name_latches, name_gates, operands_of}
 
 -- each name is a variable before n
 abbrev pub Below : ℕ → Names → Type 0
 Below n names = (v : ℕ) → names v < n
-
-pub name_same : (v w : ℕ) (names : Names) → name v w names v ≡ w
-unfolding name
-name_same v w names = rw (eq-eqb v v refl)
-
-pub name-other : (v w u : ℕ) (names : Names) → u ≢ v → name v w names u ≡ names u
-unfolding name
-name-other v w u names d = rw (ne_eqb u v d)
 
 pub name_below : (n v w : ℕ) (names : Names) → Below n names → w < n → Below n (name v w names)
 unfolding name
@@ -70,23 +61,14 @@ gates_below (g ∷ gs) v names b =
     (gates_below gs (suc v) _ (name_below (suc v) (variable g.own) v names (below_more v (suc v) names b (omega arith)) (omega arith)))
     (omega arith)
 
-one_odd : (m : ℕ) → m < 2 → one_if (eqb m 1) ≡ m
-unfolding one_if
-one_odd zero h = refl
-one_odd (suc zero) h = refl
-one_odd (suc (suc m)) h = absurd (omega arith)
-
 -- a literal of the circuit as the net has it
 pub literal_constant : (names : Names) (l : ℕ) → l < 2 → net_literal names l ≡ l
 unfolding net_literal constant
 literal_constant names l h = rw (lt-ltb l 2 h)
 
 pub literal_made : (names : Names) (l : ℕ) → 2 ≤ l → net_literal names l ≡ 2 * names (l / 2) + l % 2
-unfolding net_literal constant variable inverted odd
-literal_made names l h = rw (le-ltb l 2 h) (ap (λ (m : ℕ). 2 * names (l / 2) + m) (odd_one l))
-  where
-    odd_one : (n : ℕ) → one_if (odd n) ≡ n % 2
-    odd_one n = one_odd (n % 2) (omega arith)
+unfolding net_literal constant variable inverted
+literal_made names l h = rw (le-ltb l 2 h) (ap (λ (m : ℕ). 2 * names (l / 2) + m) (one_if-odd l))
 
 -- a literal names a variable that stands before n
 pub literal_before : (n l : ℕ) (names : Names) → Below n names → net_literal names l < 2 * n

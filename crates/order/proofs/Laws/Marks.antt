@@ -9,7 +9,7 @@ use mathlib.Core.Path.{◌≡◌, refl, sym, ap, ◌∙◌}
 use lib.Dec.{eqb, ltb}
 use lib.ListN.{length, get_or, set, length-set, get_or-eq_default}
 use lib.Seq.{get_or-set_same, get_or-set_other}
-use borrow.Author.Tests.{ltb-true, lt-ltb, le-ltb, ne_eqb, not-true, not-false}
+use borrow.Author.Tests.{ltb-true, lt-ltb, le-ltb, not-true, not-false}
 use Rattle.below.specs.Table.{table}
 use Rattle.below.proofs.Laws.Table.{get_or_table, length_table}
 use Rattle.order.specs.Placing.{marked, waits}
@@ -70,9 +70,13 @@ pub zero_unmarked : (marks : List ℕ) (i : ℕ) → get_or marks i 1 ≡ 0 → 
 unfolding marked
 zero_unmarked marks i e = rw e
 
-pub not_zero_marked : (marks : List ℕ) (i : ℕ) → ¬ (get_or marks i 1 ≡ 0) → marked marks i ≡ true
+-- a gate behind the marks counts as marked
+pub marked_past : (marks : List ℕ) (i : ℕ) → length marks ≤ i → true ≡ marked marks i
 unfolding marked
-not_zero_marked marks i d = ap not (ne_eqb (get_or marks i 1) 0 d)
+marked_past marks i h = rw (get_or-eq_default marks 1 {n = i} h)
+
+pub unmarked_below : (marks : List ℕ) (i : ℕ) → marked marks i ≡ false → i < length marks
+unmarked_below marks i e = elim (dec_lt i (length marks)) [ yes h ↦ h | no h ↦ absurd (true≢false (marked_past marks i (omega arith) ∙ e)) ]
 
 pub nothing-marked : (n i : ℕ) → i < n → marked (table (λ j. 0) n) i ≡ false
 nothing-marked n i h = zero_unmarked (table (λ j. 0) n) i (get_or_table {A = ℕ} (λ j. 0) n i 1 h)
@@ -105,3 +109,5 @@ unseen_none (m ∷ ms) all = rw (not-true (eqb m 0) (all zero (omega arith))) (u
 
 pub unseen-nothing : (n : ℕ) → unseen (table (λ i. 0) n) ≤ n
 unseen-nothing n = omega (arith, unseen_most (table (λ i. 0) n), length_table {A = ℕ} (λ i. 0) n)
+
+pub ruleset marking = (unmarked_below, unseen-mark)

@@ -17,8 +17,8 @@ use Rattle.order.specs.Circle.{lowest_circle}
 use Rattle.order.proofs.Laws.Marks.{mark_same, mark-other, mark_grows, waits_below, waits-unmarked, past_stays}
 use Rattle.order.proofs.Laws.Members.{put_cases, member_dec}
 use Rattle.order.proofs.Laws.Visit.{Visit, stays, goes, visit_stays, marks_grow, operands_marked, open_before, open_after}
-use Rattle.order.proofs.Laws.Meets.{uses_below, below_lowest, no_circle_lowest}
-use Rattle.order.proofs.Laws.Grown.{Fits, Grown, grown_put, grown_ordered, test_ordered, ordered_test}
+use Rattle.order.proofs.Laws.Meets.{uses_below, no_circle_lowest}
+use Rattle.order.proofs.Laws.Grown.{Fits, Grown, grown_put, grown_ordered, test_ordered}
 use Rattle.order.proofs.Laws.Placed.{visits_next, visits-whole, placed-length}
 
 reaches_on : {uses : List ℕ} {n i j k : ℕ} → Reaches uses n i j → Uses uses n j k → Reaches uses n i k
@@ -118,10 +118,3 @@ module _ (uses : List ℕ) (n : ℕ) where
   -- the test of the placed gates says whether some gate reaches itself
   pub placed_in_order : is_ordered uses n (order_of uses n) ≡ true → lowest_circle uses n ≡ n
   placed_in_order e = no_circle_lowest uses n (ordered_no_circle (order_of uses n) (test_ordered uses n (order_of uses n) e))
-
-  pub not_in_order : is_ordered uses n (order_of uses n) ≡ false → lowest_circle uses n < n
-  not_in_order e = elim (dec_lt (lowest_circle uses n) n) [
-    | yes h ↦ h
-    | no h ↦ absurd
-        (true≢false (sym (ordered_test uses n (order_of uses n) (no_circle_ordered (λ i l. below_lowest uses n i (omega arith)))) ∙ e))
-  ]

@@ -1,5 +1,5 @@
 -- The loop that tests an order: the gates in front are marked, each fitted, and marks say whether the next one does. Assumes nothing.
-use Prim.Native.Nat.{ℕ, ◌+◌, ◌*◌, ◌<◌, ◌≤◌}
+use Prim.Native.Nat.{ℕ, ◌+◌, ◌<◌, ◌≤◌}
 use native.Mathlib.Omega.{arith}
 use native.Mathlib.Numerals.{add-one}
 use native.Mathlib.Decide.{dec_lt, ℕ_discrete}
@@ -8,7 +8,7 @@ use mathlib.Core.Bool.{Bool, true, false, not, ◌&&◌, ◌||◌, or-false, or-
 use mathlib.Core.List.{List, [], ◌∷◌, ◌++◌}
 use mathlib.Core.Path.{◌≡◌, refl, sym, ap, ap₂, ◌∙◌, subst}
 use lib.Dec.{eqb, ltb, leb}
-use lib.ListN.{length, get_or, take, set, length-set, get_or-eq_default}
+use lib.ListN.{length, get_or, take, set, length-set}
 use lib.Seq.{take-suc}
 use borrow.Author.Tests.{eq-eqb, ne_eqb, lt-leb, le-leb, lt-ltb, le-ltb}
 use Rattle.below.specs.Among.{among, member}
@@ -19,43 +19,12 @@ use Rattle.below.proofs.Laws.Table.{length_table}
 use Rattle.order.specs.Uses.{first_of, second_of}
 use Rattle.order.specs.Placing.{marked}
 use Rattle.order.specs.Ordered.{stands, fits, is_ordered}
-use Rattle.order.specs.Inner.Lent.{fits_marked}
-use Rattle.order.proofs.Laws.Marks.{mark_same, mark-other, nothing-marked, both_true}
-use Rattle.order.proofs.Laws.Reached.{at_place}
+use Rattle.order.specs.Inner.FitsMarked.{fits_marked}
+use Rattle.order.proofs.Laws.Marks.{mark_same, mark-other, nothing-marked, both_true, marked_past, unmarked_below}
+use Rattle.std.proofs.lemmas.List.{get_or_default}
 use Rattle.below.proofs.Laws.Among.{member_snoc}
 
--- one mark
-module _ (marks : List ℕ) (gate : ℕ) where
-  pub marked-here : gate < length marks → not (eqb (get_or marks gate 0) 0) ≡ marked marks gate
-  unfolding marked
-  marked-here h = ap (λ (x : ℕ). not (eqb x 0)) (at_place marks gate 0 1 h)
-
-  pub marked_past : length marks ≤ gate → true ≡ marked marks gate
-  unfolding marked
-  marked_past h = rw (get_or-eq_default marks 1 {n = gate} h)
-
-  pub unmarked_below : marked marks gate ≡ false → gate < length marks
-  unmarked_below e = elim (dec_lt gate (length marks)) [ yes h ↦ h | no h ↦ absurd (true≢false (marked_past (omega arith) ∙ e)) ]
-
--- whether a gate fits, by three marks in turn
 module _ (uses marks : List ℕ) (gate : ℕ) where
-  pub marked-fits-not : marked marks gate ≡ true → false ≡ fits_marked uses marks gate
-  unfolding fits_marked
-  marked-fits-not e = rw e
-
-  module _ (pairs : 2 * length marks ≤ length uses) (own : marked marks gate ≡ false) (f : ℕ) (is_first : f ≡ get_or uses (2 * gate) 0) where
-    first : marked marks (first_of uses (length marks) gate) ≡ marked marks f
-    first = ap (marked marks) (sym (is_first ∙ at_place uses (2 * gate) 0 (length marks) (omega (arith, unmarked_below marks gate own))))
-
-    pub first_looked : marked marks f ≡ false → false ≡ fits_marked uses marks gate
-    unfolding fits_marked
-    first_looked e = rw (own, first, e)
-
-    pub second_looked : marked marks f ≡ true → (s : ℕ) → s ≡ get_or uses (2 * gate + 1) 0 → marked marks s ≡ fits_marked uses marks gate
-    unfolding fits_marked
-    second_looked e s is_second = rw (own, first, e)
-        (ap (marked marks) (is_second ∙ at_place uses (2 * gate + 1) 0 (length marks) (omega (arith, unmarked_below marks gate own))))
-
   pub fits-unmarked : fits_marked uses marks gate ≡ true → gate < length marks
   unfolding fits_marked
   fits-unmarked e = unmarked_below marks gate (by (marked marks gate) (both_true (not (marked marks gate)) _ e).0)
@@ -149,7 +118,7 @@ module _ (uses : List ℕ) (n : ℕ) (order : List ℕ) where
     -- the gate as it was read
     module _ (h : k < n) (wide : length order ≡ n) (gate : ℕ) (read : gate ≡ get_or order k 0) where
       same_gate : gate ≡ get_or order k n
-      same_gate = read ∙ at_place order k 0 n (omega arith)
+      same_gate = read ∙ get_or_default order k 0 n (omega arith)
 
       same_fit : fits_marked uses marks gate ≡ fits uses n (take k order) (get_or order k n)
       same_fit = ap (fits_marked uses marks) same_gate ∙ marks_fit
@@ -159,3 +128,5 @@ module _ (uses : List ℕ) (n : ℕ) (order : List ℕ) where
 
       pub looked_fails : fits_marked uses marks gate ≡ false → false ≡ is_ordered uses n order
       looked_fails e = tested_fails h (sym same_fit ∙ e)
+
+pub ruleset turns = (tested_start, looked_next, looked_fails, tested_end, fits-unmarked)

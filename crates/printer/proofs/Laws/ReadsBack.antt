@@ -5,9 +5,10 @@ use mathlib.Core.List.{List}
 use mathlib.Core.Logic.{◌↔◌}
 use mathlib.Core.Path.{◌≡◌, sym, ap, ◌∙◌}
 use lib.ListN.{length, take}
-use Rattle.circuit.specs.Answer.{WrittenAs, written_outcome, count_of}
+use Rattle.std.specs.Prelude.{Result}
+use Rattle.circuit.specs.Answer.{WrittenAs, outcome_of, count_of}
 use Rattle.circuit.specs.Circuit.{Circuit}
-use Rattle.circuit.specs.declared.Written.{Written}
+use Rattle.circuit.specs.declared.numbers.Refusal.{Refusal}
 use Rattle.circuit.specs.Outcome.{Outcome, taken, refused, ◌>>=◌}
 use Rattle.circuit.proofs.Laws.Answer.{counted-stands, fitted-is}
 use Rattle.circuit.proofs.Laws.Outcome.{bind_taken}
@@ -18,16 +19,16 @@ use Rattle.text.specs.Printed.{printed, printed_into}
 use Rattle.text.proofs.Laws.PrintedReadsBack.{printed_reads_back}
 use Rattle.printer.specs.FilePrinted.{file_printed}
 
-module _ (file : List ℕ) (c : Circuit) (reads : circuit_in file ≡ taken c) (before after : List ℕ) (r : Written) (n : ℕ) where
+module _ (file : List ℕ) (c : Circuit) (reads : circuit_in file ≡ taken c) (before after : List ℕ) (r : Result ℕ Refusal) (n : ℕ) where
   -- the print stands at the front
-  pub print_stands : WrittenAs (file_printed file (length before)) before after r → written_outcome r ≡ taken n → printed c ≡ take n after
+  pub print_stands : WrittenAs (file_printed file (length before)) before after r → outcome_of r ≡ taken n → printed c ≡ take n after
   unfolding file_printed printed_into
   print_stands w e =
       fitted-is (printed c) (take n after) (length before)
       (sym (ap (λ (o : Outcome Circuit). o >>= λ d. printed_into d (length before)) reads)
       ∙ counted-stands (file_printed file (length before)) before after r n w e)
 
-  pub print_reads_back : WrittenAs (file_printed file (length before)) before after r → written_outcome r ≡ taken n → circuit_in (take n after) ≡ taken c
+  pub print_reads_back : WrittenAs (file_printed file (length before)) before after r → outcome_of r ≡ taken n → circuit_in (take n after) ≡ taken c
   unfolding circuit_in
   print_reads_back w e = ap circuit_in (sym (print_stands w e)) ∙ printed_reads_back file c reads
 
@@ -50,7 +51,7 @@ count_refused_exactly file room number place =
     (λ e. row.0 (told.0 e), λ t. told.1 (row.1 t))
 
 pub print_refused_exactly :
-    (file before after : List ℕ) (r : Written) (number place : ℕ) → WrittenAs (file_printed file (length before)) before after r
-    → (written_outcome r ≡ refused number place) ↔ WriterRow file printed (length before) number place
+    (file before after : List ℕ) (r : Result ℕ Refusal) (number place : ℕ) → WrittenAs (file_printed file (length before)) before after r
+    → (outcome_of r ≡ refused number place) ↔ WriterRow file printed (length before) number place
 print_refused_exactly file before after r number place w =
     let row = count_refused_exactly file (length before) number place in (λ e. row.0 (sym w.answer ∙ e), λ t. w.answer ∙ row.1 t)

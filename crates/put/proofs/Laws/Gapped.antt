@@ -1,37 +1,74 @@
--- The loop that closes a gap: up to i the bytes are those of the closed gap, from there on as they were. Assumes nothing.
-use Prim.Native.Nat.{ℕ, ◌+◌, ◌<◌, ◌≤◌}
+-- A gap that is closed by moving what lies behind it and filling the end: a place behind the bytes and a gap that goes past them count as far as the
+-- bytes go. Assumes nothing.
+use Prim.Native.Nat.{ℕ, ◌+◌, ◌-◌, ◌<◌, ◌≤◌, min}
 use native.Mathlib.Decide.{dec_lt}
 use native.Mathlib.Omega.{arith}
-use mathlib.Core.List.{List}
-use mathlib.Core.Path.{◌≡◌, refl, sym, ◌∙◌}
-use lib.ListN.{length, get_or, set, length-set}
-use lib.Seq.{ext_get_or, get_or-set_same, get_or-set_other}
+use mathlib.Core.Bool.{cond}
+use mathlib.Core.List.{List, ◌++◌, append_assoc, append-nil}
+use mathlib.Core.Path.{◌≡◌, sym, ap, ap₂, ◌∙◌}
+use borrow.Author.Tests.{le-leb, lt-leb}
+use borrow.Rule.Slice.PartMut.{put_mid}
+use lib.Dec.{leb}
+use lib.ListN.{length, get_or, take, drop, replicate, length-drop, take-append-drop, drop_of_length-le, get_or-eq_default}
+use lib.Seq.{drop-drop, length-take-le}
+use Rattle.std.specs.List.{copy_within}
+use Rattle.std.proofs.lemmas.List.{take_rest}
+use Rattle.std.proofs.lemmas.List.Edits.{take-paste, length-paste}
+use Rattle.below.specs.Table.{table}
+use Rattle.below.proofs.Laws.Filled.{replicate_table}
+use Rattle.below.proofs.Laws.Table.{table_same}
 use Rattle.put.specs.Gap.{close_gap}
-use Rattle.put.proofs.Laws.Gap.{length_gap, gap_before, gap_behind}
+use Rattle.put.proofs.Laws.Gap.{close_gap-is}
 
-pub record Gapped (before : List ℕ) (at n : ℕ) (now : List ℕ) (i : ℕ) : Type 0 where
-  pub long : length now ≡ length before
-  pub from : at ≤ i
-  pub done : (j : ℕ) → j < i → get_or now j 0 ≡ get_or (close_gap before at n) j 0
-  pub left : (j : ℕ) → i ≤ j → get_or now j 0 ≡ get_or before j 0
-
-module _ (before : List ℕ) (at n : ℕ) where
-  pub gapped_start : Gapped before at n before at
-  gapped_start = record { long = refl; from = omega arith; done = λ j h. sym (gap_before before at n j h); left = λ j h. refl }
-
-  pub gapped_more :
-      {now : List ℕ} {i v : ℕ} → Gapped before at n now i → i < length now → v ≡ get_or now (i + n) 0 → Gapped before at n (set now i v) (i + 1)
-  gapped_more {now} {i} {v} g h e = record { long = length-set now i v ∙ g.long; from = omega (arith, g.from); done = done; left = left }
+module _ (bytes : List ℕ) (at n a k : ℕ) (from : a ≡ min at (length bytes)) (many : k ≡ min n (length bytes - a)) where
+  clipped : close_gap bytes at n ≡ close_gap bytes a k
+  unfolding close_gap
+  clipped = table_same _ _ (length bytes) (λ i h. elim (dec_lt i at) [ yes l ↦ before i h l | no l ↦ behind i h (omega arith) ])
     where
-      here : get_or (set now i v) i 0 ≡ get_or (close_gap before at n) i 0
-      here = get_or-set_same now i v 0 h ∙ e ∙ g.left (i + n) (omega arith) ∙ sym (gap_behind before at n i g.from (omega (arith, g.long)))
+      before : (i : ℕ) → i < length bytes → i < at
+          → cond (leb at i) (get_or bytes (i + n) 0) (get_or bytes i 0) ≡ cond (leb a i) (get_or bytes (i + k) 0) (get_or bytes i 0)
+      before i h l = let near : i < a = omega arith in rw (lt-leb at i l, lt-leb a i near)
 
-      done : (j : ℕ) → j < i + 1 → get_or (set now i v) j 0 ≡ get_or (close_gap before at n) j 0
-      done j l =
-          elim (dec_lt j i) [ yes s ↦ get_or-set_other now i j v 0 (λ e. omega arith) ∙ g.done j s | no s ↦ let e : j ≡ i = omega arith in rw e here ]
+      moved : (i : ℕ) → i < length bytes → at ≤ i → get_or bytes (i + n) 0 ≡ get_or bytes (i + k) 0
+      moved i h l = elim (dec_lt (length bytes - a) n) [
+        | yes m ↦ get_or-eq_default bytes 0 (omega arith) ∙ sym (get_or-eq_default bytes 0 (omega arith))
+        | no m ↦ ap (λ (j : ℕ). get_or bytes (i + j) 0) (omega arith)
+      ]
 
-      left : (j : ℕ) → i + 1 ≤ j → get_or (set now i v) j 0 ≡ get_or before j 0
-      left j l = get_or-set_other now i j v 0 (λ s. omega arith) ∙ g.left j (omega arith)
+      behind : (i : ℕ) → i < length bytes → at ≤ i
+          → cond (leb at i) (get_or bytes (i + n) 0) (get_or bytes i 0) ≡ cond (leb a i) (get_or bytes (i + k) 0) (get_or bytes i 0)
+      behind i h l = let far : a ≤ i = omega arith in rw (le-leb at i l, le-leb a i far) (moved i h l)
 
-  pub gapped_ends : {now : List ℕ} {i : ℕ} → Gapped before at n now i → length now ≤ i → now ≡ close_gap before at n
-  gapped_ends {now} g h = ext_get_or 0 now (close_gap before at n) (g.long ∙ sym (length_gap before at n)) (λ j l. g.done j (omega arith))
+  in_parts : bytes ≡ take a bytes ++ take k (drop a bytes) ++ drop (a + k) bytes
+  in_parts =
+      sym (ap (λ (l : List ℕ). take a bytes ++ l)
+      (ap (λ (l : List ℕ). take k (drop a bytes) ++ l) (sym (drop-drop k a bytes)) ∙ take-append-drop k (drop a bytes))
+      ∙ take-append-drop a bytes)
+      ∙ sym (append_assoc (take a bytes) (take k (drop a bytes)) (drop (a + k) bytes))
+
+  parts : close_gap bytes a k ≡ take a bytes ++ drop (a + k) bytes ++ table (λ i. 0) k
+  parts = close_gap-is (take a bytes) (take k (drop a bytes)) (drop (a + k) bytes) in_parts (length-take-le a bytes (omega arith))
+      (length-take-le k (drop a bytes) (omega (arith, length-drop a bytes)))
+
+  -- as code moves and fills
+  pub gap_closed : (moved filled : List ℕ) (j : ℕ) → moved ≡ copy_within bytes (a + k) (length bytes) a → filled ≡ replicate k 0 → j ≡ k
+      → put_mid (length bytes - k) j moved filled ≡ close_gap bytes at n
+  gap_closed moved filled j move fill e = ap₂ {C = List ℕ} (λ xs ys. xs ++ ys) front end ∙ sym (clipped ∙ parts)
+    where
+      rest : ℕ
+      rest = length bytes - (a + k)
+
+      front : take (length bytes - k) moved ≡ take a bytes ++ drop (a + k) bytes
+      front =
+          ap (λ (m : ℕ). take m moved) (omega arith) ∙ ap (take (a + rest)) move
+          ∙ take-paste bytes a (drop (a + k) bytes) rest (omega arith) (omega (arith, length-drop (a + k) bytes))
+          ∙ ap (λ (l : List ℕ). take a bytes ++ l) (take_rest bytes (a + k))
+
+      long : length moved ≡ length bytes
+      long = ap length move ∙ length-paste bytes a (drop (a + k) bytes) rest (omega arith) (omega (arith, length-drop (a + k) bytes))
+
+      end : filled ++ drop j (drop (length bytes - k) moved) ≡ table (λ i. 0) k
+      end =
+          ap (λ (l : List ℕ). filled ++ l)
+          (drop_of_length-le (drop (length bytes - k) moved) {i = j} (omega (arith, length-drop (length bytes - k) moved, long)))
+          ∙ append-nil filled ∙ fill ∙ replicate_table k 0

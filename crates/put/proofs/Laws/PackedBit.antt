@@ -1,6 +1,6 @@
 -- A bit of packed numbers (02, T-07) by the number that it stands in: bit b of byte j is bit 8 × j + b of all. Assumes nothing.
 use Prim.Native.Nat.{ℕ, zero, suc, ◌+◌, ◌*◌, ◌/◌, ◌%◌, ◌^◌, ◌<◌, ◌≤◌}
-use native.Mathlib.Nat.{mod-lt, div-le_self, div-add-mod', add-mul-div_right, mul-add-mod_self_right, div-lt_iff_lt-mul, le-div_iff_mul-le}
+use native.Mathlib.Nat.{div-add-mod', add-mul-div_right, mul-add-mod_self_right, div-lt_iff_lt-mul, le-div_iff_mul-le}
 use native.Mathlib.Omega.{arith}
 use mathlib.Core.Bool.{Bool, true, false, ◌&&◌}
 use mathlib.Core.List.{List}
@@ -36,13 +36,6 @@ module _ (w j b : ℕ) (pos : 0 < w) where
   pub bit_of_lem : (8 * j + b) % w ≡ (8 * (j % w) + b) % w
   bit_of_lem = ap (λ (i : ℕ). i % w) (whole ∙ omega arith) ∙ mul-add-mod_self_right (8 * (j / w)) w (8 * (j % w) + b)
 
-  -- nothing wraps
-  pub place_within : w ≤ 8 → b < 8 → 8 * (j % w) + b < 64
-  place_within h l = omega (arith, mod-lt j pos)
-
-  pub inside_within : (8 * (j % w) + b) / w ≤ 8 * (j % w) + b
-  inside_within = div-le_self (8 * (j % w) + b) w
-
   module _ (numbers : List ℕ) (n : ℕ) where
     -- of a number that isn't there
     pub bit_past : length numbers / 8 < j / w → 0 ≡ one_if (ltb (8 * j + b) (n * w) && packed_bit (λ k. get_or numbers k 0) w (8 * j + b))
@@ -72,3 +65,5 @@ module _ (w j b : ℕ) (pos : 0 < w) where
         ∙ ap₂ (λ (a c : ℕ). bit (get_or numbers a 0) c) same (sym bit_of_lem)
         ∙ same_bit (bit (get_or numbers ((8 * j + b) / w) 0) ((8 * j + b) % w)) (bit_below (get_or numbers ((8 * j + b) / w) 0) ((8 * j + b) % w))
         ∙ ap (λ (t : Bool). one_if (t && packed_bit (λ k. get_or numbers k 0) w (8 * j + b))) (sym (lt-ltb (8 * j + b) (n * w) inside))
+
+pub ruleset bit_cases = (bit_past, bit-behind, bit_there)

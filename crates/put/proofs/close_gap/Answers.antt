@@ -1,21 +1,16 @@
--- `put::close_gap` moves and clears at once, byte by byte: each turn one byte more is that of the closed gap. Assumes nothing.
+-- `put::close_gap` meets its contract: what lies behind the gap is moved, and the end filled. Assumes nothing.
 use native.Mathlib.Omega.{arith}
-use Rattle.put.proofs.Laws.Gapped.{gapped_start, gapped_more, gapped_ends}
+use Rattle.std.proofs.Common.{◌≡◌, ℕ, replicate, rules, ap, ◌∙◌}
+use Rattle.std.proofs.lemmas.Grind.{common_steps}
+use Rattle.put.proofs.Laws.Gapped.{gap_closed}
 use Rattle.put.proofs.close_gap.Goals as goal
 
-pub loop-i-init : goal.loop-i-init
-loop-i-init c = let a = c.args in gapped_start a.bytes.now a.at a.n
-
-pub loop-i-smaller : goal.loop-i-smaller
-loop-i-smaller c = omega (arith, c.loop-i.invariant.long)
-
-pub loop-i-preserved : goal.loop-i-preserved
-loop-i-preserved c =
-    let a = c.args in
-    gapped_more a.bytes.now a.at a.n c.loop-i.invariant c.loop-i-test.true c.byte_behind-moved.ensures
-
-pub shape_of-bytes : goal.shape_of-bytes
-shape_of-bytes c = c.loop-i.invariant.long
-
 pub returns : goal.returns
-returns c = let a = c.args in gapped_ends a.bytes.now a.at a.n c.loop-i.invariant c.loop-i-test.false
+returns c =
+    let b = c.args.bytes.now in
+    let n = c.min-n.result in
+    let filled : c.fill.new.self ≡ replicate n 0 =
+    c.fill.ensures.after (λ y e. search rules) ∙ ap (λ (m : ℕ). replicate m 0) (grind (arith, common_steps))
+    in
+    gap_closed b c.args.at c.args.n c.min-at.result n c.min-at.ensures c.min-n.ensures c.copy_within.new.self c.fill.new.self _
+    c.copy_within.ensures.after filled (omega (arith, c.copy_within.ensures.len))

@@ -1,21 +1,19 @@
 -- A file from its first byte on: length, header, limits, and then its lines. Assumes nothing.
-use Prim.Native.Nat.{ℕ, ◌+◌, ◌-◌, ◌<◌, ◌≤◌}
-use native.Mathlib.Omega.{arith}
+use Prim.Native.Nat.{ℕ, ◌+◌, ◌<◌, ◌≤◌}
 use native.Mathlib.Nat.{zero-add}
 use mathlib.Core.Bool.{true, false, ◌&&◌}
 use mathlib.Core.List.{List, [], ◌∷◌}
 use mathlib.Core.Option.{none, some}
 use mathlib.Core.Path.{◌≡◌, sym, ap, ◌∙◌}
 use lib.Dec.{eqb, leb}
-use lib.ListN.{length, take, drop, length-drop}
-use lib.Seq.{take_all}
+use lib.ListN.{length, take, drop}
 use borrow.Author.Tests.{lt-ltb, le-ltb, leb-true, eqb-true}
 use Rattle.bits.proofs.Laws.Bytes.{both_true}
 use Rattle.circuit.specs.Limits.{base}
 use Rattle.circuit.specs.Outcome.{refused, refuse_if}
 use Rattle.fields.proofs.Laws.Position.{lines-behind, first_line_takes}
 use Rattle.reader.specs.Inner.LinesAs.{circuit_of_lines}
-use Rattle.reader.specs.Inner.ValueOf.{Few}
+use Rattle.reader.specs.Inner.Few.{Few}
 use Rattle.text.specs.Header.{Header, header_numbers, header_of, within_limits}
 use Rattle.text.specs.Line.{lines, first_line}
 use Rattle.text.specs.Numbers.{file_too_long, bad_header, header_limit}
@@ -65,7 +63,3 @@ module _ (bytes : List ℕ) where
 -- the first line is the part of the file up to its end
 pub first_part : (bytes : List ℕ) (end : ℕ) → end ≡ 0 + length (first_line bytes) → take end bytes ≡ first_line bytes
 first_part bytes end e = rw (e ∙ zero-add (length (first_line bytes))) (first_line_takes bytes)
-
--- what stands behind it
-pub rest_part : (bytes : List ℕ) (end : ℕ) → take (length bytes - end) (drop end bytes) ≡ drop end bytes
-rest_part bytes end = take_all (length bytes - end) (drop end bytes) (omega (arith, length-drop end bytes))

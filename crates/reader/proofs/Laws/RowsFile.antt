@@ -42,7 +42,7 @@ table_join f n (suc m) =
     ∙ ap (λ l. l ++ (f (n + m) ∷ [])) (table_join f n m)
     ∙ ap (table f) (sym (add-suc n m))
 
-module _ (h : Header) (rows defined : List ℕ) (rest : List (List ℕ)) where
+module _ (h : Header) (rows : List (List ℕ)) (defined : List ℕ) (rest : List (List ℕ)) where
   abbrev all : Body
   all = record { rows = table (row_at h rows) (line_count h); defined = defined; rest = rest }
 

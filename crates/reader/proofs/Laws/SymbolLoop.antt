@@ -1,61 +1,59 @@
 -- Symbol lines read one by one: what is left of them equals the whole. Assumes nothing.
-use Prim.Native.Nat.{ℕ, ◌+◌, ◌-◌, ◌<◌, ◌≤◌}
+use Prim.Native.Nat.{ℕ, zero, suc, ◌+◌, ◌<◌, ◌≤◌, min}
 use native.Mathlib.Decide.{ℕ_discrete}
-use native.Mathlib.Nat.{add-zero}
-use native.Mathlib.Numerals.{add-one}
 use native.Mathlib.Omega.{arith}
 use mathlib.Core.Bool.{Bool, true, false, cond, ◌&&◌, ◌||◌}
 use mathlib.Core.List.{List, [], ◌∷◌, ◌++◌, flat_map}
 use mathlib.Core.Option.{none, some}
 use mathlib.Core.Path.{◌≡◌, refl, sym, ap, ap₂, ◌∙◌, subst}
 use lib.Dec.{eqb}
-use lib.ListN.{length, get_or, take, drop, set, length-set, length-drop, length-append, drop_of_length-le}
-use lib.Seq.{drop-cons, drop-drop, get_or-set_same, get_or-set_other}
+use lib.ListN.{length, get_or, take, drop, set, length-set, length-drop}
+use lib.Seq.{take-append_seam, drop-append_seam, get_or-set_same, get_or-set_other}
 use borrow.Author.Tests.{eq-eqb, eqb-true}
 use Rattle.below.specs.Among.{among}
 use Rattle.below.proofs.Laws.Among.{among_snoc}
 use Rattle.bits.specs.Bit.{one_if}
 use Rattle.bits.proofs.Laws.Bytes.{both_true}
+use Rattle.std.specs.Prelude.{Some, None, Ok, Err}
+use Rattle.std.specs.List.{IsFirstMatchOrLen}
+use Rattle.std.proofs.lemmas.List.{nil_from_length}
+use Rattle.below.specs.Table.{table}
+use Rattle.below.proofs.Laws.Table.{length_table}
+use Rattle.circuit.specs.Fault.{number_of}
+use Rattle.circuit.specs.Limits.{base}
+use Rattle.circuit.specs.declared.numbers.Fault.{Fault}
 use Rattle.circuit.specs.Outcome.{refused}
-use Rattle.lines.specs.declared.symbol.Symboled.TheVariants.{Comment, Of, Bad}
-use Rattle.fields.specs.declared.line.Cursor.{Cursor}
+use Rattle.reader.proofs.Laws.Zeros.{zeros_at}
+use Rattle.lines.specs.declared.symbol.Symbol.{Symbol as Value}
 use Rattle.text.specs.Header.{Header}
-use Rattle.text.specs.Line.{lines, before, first_line}
-use Rattle.text.specs.Numbers.{bad_symbol}
-use Rattle.text.specs.Symbol.{Symbol, input_letter, latch_letter, output_letter, names, positions, symbol_lines, or_bad_symbol, is_controllable}
+use Rattle.text.specs.Line.{lines, before}
+use Rattle.text.specs.Symbol.{Symbol, input_letter, latch_letter, output_letter, names, positions, symbol_of, symbol_lines, or_bad_symbol, is_controllable}
 use Rattle.text.specs.Symbol.{is_controllable_name}
 use Rattle.lines.specs.Inner.Named.{Named, slot_of}
-use Rattle.reader.specs.Inner.SymbolsAs.{Flags, SymbolRoom, SymbolsRead}
-use Rattle.lines.specs.Inner.SymboledAs.{SymbolAs}
-use Rattle.fields.proofs.Laws.Position.{first_line_cons, lines-behind}
-use Rattle.reader.proofs.Laws.Place.{line_part, line_ends_within}
+use Rattle.reader.specs.Inner.AllLines.{line_count}
+use Rattle.reader.specs.Inner.Few.{Few}
+use Rattle.reader.specs.Inner.SymbolsAs.{Flags, SymbolsRead}
+use Rattle.lines.specs.Inner.SymboledAs.{IsSymbol, SymbolAs}
 use Rattle.fields.proofs.Laws.Truth.{or-false, or-true}
 
--- a text that isn't empty has a first line, which isn't empty, and the others stand behind it
-some_line : (t : List ℕ) → 0 < length t → 0 < length (lines t)
+-- what is cut off behind the first byte 10, or all where there is none, is the first line
+first_cut : (s : List ℕ) (i n : ℕ) → n ≡ min (i + 1) (length s) → ((k d : ℕ) → k < i → eqb (get_or s k d) 10 ≡ false)
+    → (i < length s → (d : ℕ) → eqb (get_or s i d) 10 ≡ true) → 0 < length s → lines s ≡ take n s ∷ lines (drop n s)
 unfolding lines before
-some_line [] h = absurd (omega arith)
-some_line (b ∷ t) h = by (eqb b 10) (lines t)
-  where
-    by : (e : Bool) (ls : List (List ℕ)) → 0 < length (cond e ((b ∷ []) ∷ ls) (before b ls))
-    by true ls = omega arith
-    by false [] = omega arith
-    by false (l ∷ ls) = omega arith
+first_cut [] i n e passed found more = absurd (omega arith)
+first_cut (b ∷ t) i zero e passed found more = absurd (omega arith)
+first_cut (b ∷ t) zero (suc n) e passed found more = let one : n ≡ 0 = omega arith in rw (one, found (omega arith) 0) refl
+first_cut (b ∷ []) (suc i) (suc n) e passed found more = let one : n ≡ 0 = omega arith in rw (one, passed 0 0 (omega arith)) refl
+first_cut (b ∷ c ∷ t) (suc i) (suc n) e passed found more = rw (passed 0 0 (omega arith))
+    (ap (before b) (first_cut (c ∷ t) i n (omega (arith, e)) (λ k d low. passed (suc k) d (omega (arith, low))) (λ low d. found (omega (arith, low)) d)
+    (omega arith)))
 
-split-first : (ls : List (List ℕ)) → 0 < length ls → ls ≡ get_or ls 0 [] ∷ drop 1 ls
-split-first [] l = absurd (omega arith)
-split-first (x ∷ ls) l = refl
-
-pub line_at : (s : List ℕ) (at end : ℕ) → at < length s → end ≡ at + length (first_line (drop at s))
-    → lines (drop at s) ≡ first_line (drop at s) ∷ lines (drop end s)
-unfolding first_line
-line_at s at end h e =
-    split-first (lines (drop at s)) (some_line (drop at s) (omega (arith, length-drop at s)))
-    ∙ ap {B = List (List ℕ)} (λ ls. first_line (drop at s) ∷ ls) (lines-behind (drop at s)
-    ∙ ap lines (drop-drop (length (first_line (drop at s))) at s ∙ ap (λ (m : ℕ). drop m s) (sym e)))
-
-pub line_positive : (s : List ℕ) (at : ℕ) → at < length s → 0 < length (first_line (drop at s))
-line_positive s at h = rw (drop-cons s at 0 h, first_line_cons) (omega arith)
+pub line_cut : (s line behind : List ℕ) → s ≡ line ++ behind → (i : ℕ) → length line ≡ min (i + 1) (length s)
+    → IsFirstMatchOrLen (λ b. eqb b 10) s i → 0 < length s → lines s ≡ line ∷ lines behind
+line_cut s line behind parts i size here more =
+    first_cut s i (length line) size (λ k d low. here.0 k d (omega arith) low) here.1 more
+    ∙ ap₂ {C = List (List ℕ)} (λ x (y : List ℕ). x ∷ lines y) (ap (take (length line)) parts ∙ take-append_seam line behind)
+    (ap (drop (length line)) parts ∙ drop-append_seam line behind)
 
 -- a position that lies below its count, by its letter
 data Valid (h : Header) (letter position : ℕ) : Type 0 where
@@ -149,8 +147,12 @@ module _ (h : Header) (s : Symbol) (below : s.position < positions h s.letter) w
   flags_more : (flags : List ℕ) (seen : List Symbol) (flag : Bool) → h.inputs ≤ length flags → flag ≡ controls s.position → Flags h.inputs flags seen
       → Flags h.inputs (cond flag (set flags s.position 1) flags) (seen ++ (s ∷ []))
   unfolding is_controllable one_if names
-  flags_more flags seen flag all is w = record { says = says; others = λ position high. behind flag is position high }
+  flags_more flags seen flag all is w = record { says = says; others = λ position high. behind flag is position high; long = size flag ∙ w.long }
     where
+      size : (f : Bool) → length (cond f (set flags s.position 1) flags) ≡ length flags
+      size true = length-set flags s.position 1
+      size false = refl
+
       behind : (f : Bool) → f ≡ controls s.position → (position : ℕ) → h.inputs ≤ position → get_or (cond f (set flags s.position 1) flags) position 0 ≡ 0
       behind true e position high = get_or-set_other flags s.position position 1 0 (λ q. omega (arith, inside e)) ∙ w.others position high
       behind false e position high = w.others position high
@@ -187,98 +189,100 @@ module _ (h : Header) (s : Symbol) (below : s.position < positions h s.letter) w
           ∙ ap one_if (sym (among_snoc (λ t. names input_letter position t && is_controllable_name t.name) seen s))
 
 -- what the loop knows: the symbols seen, as the marks and the flags say them, and what is left
-pub record Symbolling (h : Header) (file : List ℕ) (from : Cursor) (marks₀ flags₀ marks flags : List ℕ) (here : Cursor) : Type 0 where
+pub record Symbolling (h : Header) (bytes : List ℕ) (at : ℕ) (marks flags left : List ℕ) (k : ℕ) : Type 0 where
   pub seen : List Symbol
   pub named : Named h marks seen
   pub flagged : Flags h.inputs flags seen
-  pub whole : symbol_lines h from.line [] (lines (drop from.at file)) ≡ symbol_lines h here.line seen (lines (drop here.at file))
-  pub marks_all : length marks ≡ length marks₀
-  pub flags_all : length flags ≡ length flags₀
-  pub within : here.at ≤ length file
-  pub line : here.line ≡ from.line + length seen
-  pub count : length seen ≤ here.at
+  pub whole : symbol_lines h (2 + line_count h) [] (lines (drop at bytes)) ≡ symbol_lines h (2 + line_count h + k) seen (lines left)
+  pub marks_all : length marks ≡ base.inputs + base.latches + base.outputs
+  pub count : k + length left ≤ length bytes
 
-pub symbolling_starts : (h : Header) (file : List ℕ) (from : Cursor) (marks flags : List ℕ) → SymbolRoom file from h marks flags
-    → Symbolling h file from marks flags marks flags from
+pub symbolling_starts : (h : Header) (bytes : List ℕ) (at : ℕ) (marks flags left : List ℕ) (k : ℕ) → left ≡ drop at bytes → k ≡ 0
+    → marks ≡ table (λ i. 0) (base.inputs + base.latches + base.outputs) → flags ≡ table (λ i. 0) base.inputs
+    → Symbolling h bytes at marks flags left k
 unfolding Named among is_controllable one_if
-symbolling_starts h file from marks flags room =
+symbolling_starts h bytes at marks flags left k whole first m f =
     record {
       seen = [];
-      named = λ letter position low. rw (room.marks_none (slot_of h letter position));
-      flagged = record { says = λ position low. room.flags_none position; others = λ position high. room.flags_none position };
-      whole = refl;
-      marks_all = refl;
-      flags_all = refl;
-      within = room.within;
-      line = sym (add-zero from.line);
-      count = omega arith;
+      named = λ letter position low. rw (ap (λ (l : List ℕ). get_or l (slot_of h letter position) 0) m
+          ∙ zeros_at (base.inputs + base.latches + base.outputs) (slot_of h letter position));
+      flagged = record {
+        says = λ position low. none position;
+        others = λ position high. none position;
+        long = ap length f ∙ length_table {A = ℕ} (λ i. 0) base.inputs;
+      };
+      whole = ap₂ (λ (place : ℕ) (l : List ℕ). symbol_lines h place [] (lines l)) start (sym whole);
+      marks_all = ap length m ∙ length_table {A = ℕ} (λ i. 0) (base.inputs + base.latches + base.outputs);
+      count = omega (arith, first, ap length whole, length-drop at bytes);
     }
+  where
+    start : 2 + line_count h ≡ 2 + line_count h + k
+    start = omega (arith, first)
 
-module _ (h : Header) (file : List ℕ) (from : Cursor) (marks₀ flags₀ : List ℕ) (room : SymbolRoom file from h marks₀ flags₀) (marks flags : List ℕ)
-    (here : Cursor)
-    (w : Symbolling h file from marks₀ flags₀ marks flags here) where
-  pub symbolling_ends : length file ≤ here.at → SymbolsRead h file from flags
+    none : (i : ℕ) → get_or flags i 0 ≡ 0
+    none i = ap (λ (l : List ℕ). get_or l i 0) f ∙ zeros_at base.inputs i
+
+module _ (h : Header) (bytes : List ℕ) (few : Few h) (at : ℕ) (marks flags left : List ℕ) (k : ℕ)
+    (w : Symbolling h bytes at marks flags left k) where
+  pub symbolling_ends : length left ≡ 0 → SymbolsRead h bytes at flags
   unfolding symbol_lines lines
   symbolling_ends end = record {
     behind = record { symbols = w.seen; comment = none };
-    whole = w.whole
-        ∙ rw (drop_of_length-le file {i = here.at} end);
+    whole = w.whole ∙ rw (nil_from_length left end);
     flagged = w.flagged;
   }
 
-  module _ (more : here.at < length file) (end : ℕ) (ends : end ≡ here.at + length (first_line (drop here.at file))) where
-    line : List ℕ
-    line = take (end - here.at) (drop here.at file)
-
+  module _ (line behind : List ℕ) (cut : lines left ≡ line ∷ lines behind) where
     -- the line at hand decides
-    next : symbol_lines h from.line [] (lines (drop from.at file)) ≡ symbol_lines h here.line w.seen (line ∷ lines (drop end file))
-    unfolding line
-    next =
-        w.whole
-        ∙ ap (symbol_lines h here.line w.seen) (line_at file here.at end more ends
-        ∙ ap {B = List (List ℕ)} (λ l. l ∷ lines (drop end file)) (sym (line_part file here.at end ends)))
+    next : symbol_lines h (2 + line_count h) [] (lines (drop at bytes)) ≡ symbol_lines h (2 + line_count h + k) w.seen (line ∷ lines behind)
+    next = w.whole ∙ ap (symbol_lines h (2 + line_count h + k) w.seen) cut
 
-    pub symbolling_comments : SymbolAs h marks (take (end - here.at) (drop here.at file)) Comment → SymbolsRead h file from flags
-    unfolding symbol_lines line
+    pub symbolling_comments : SymbolAs h marks line (Ok None) → SymbolsRead h bytes at flags
+    unfolding symbol_lines
     symbolling_comments e = record {
-      behind = record { symbols = w.seen; comment = some (flat_map (λ l. l) (lines (drop end file))) };
-      whole = next
-          ∙ rw (e, symbol_lines);
+      behind = record { symbols = w.seen; comment = some (flat_map (λ l. l) (lines behind)) };
+      whole = next ∙ rw (e, symbol_lines);
       flagged = w.flagged;
     }
 
-    pub symbolling_refuses : SymbolAs h marks (take (end - here.at) (drop here.at file)) Bad
-        → symbol_lines h from.line [] (lines (drop from.at file)) ≡ refused bad_symbol here.line
-    unfolding symbol_lines line or_bad_symbol
-    symbolling_refuses e = next ∙ rw (e.0, symbol_lines, e.1 w.seen w.named)
+    pub symbolling_refuses : (fault : Fault) → SymbolAs h marks line (Err fault)
+        → symbol_lines h (2 + line_count h) [] (lines (drop at bytes)) ≡ refused (number_of fault) (2 + line_count h + k)
+    unfolding symbol_lines or_bad_symbol
+    symbolling_refuses fault e = next ∙ rw (e.0, symbol_lines, e.2 w.seen w.named, e.1)
 
-    pub symbolling_goes_on : (slot position : ℕ) (flag : Bool) (marks' flags' : List ℕ)
-        → SymbolAs h marks (take (end - here.at) (drop here.at file)) (Of slot position flag)
-        → marks' ≡ set marks slot 1 → flags' ≡ cond flag (set flags position 1) flags
-        → Symbolling h file from marks₀ flags₀ marks' flags' (record { at = end; line = here.line + 1 })
-    unfolding symbol_lines line or_bad_symbol
-    symbolling_goes_on slot position flag marks' flags' e m f =
-        let one = e.1 w.seen w.named in
-        let s = one.symbol in
-        let at-it : s.position ≡ position = one.at in
-        let low : s.position < positions h s.letter = subst (λ (p : ℕ). p < positions h s.letter) (sym at-it) one.below in
-        rw (m, f)
-        (record {
-          seen = w.seen ++ (s ∷ []);
-          named = subst (λ (k : ℕ). Named h (set marks k 1) (w.seen ++ (s ∷ []))) (ap (slot_of h s.letter) at-it ∙ sym one.marked)
-              (named_more h s low marks w.seen (omega (arith, w.marks_all, room.marks_all)) w.named);
-          flagged =
-              subst (λ (p : ℕ). Flags h.inputs (cond flag (set flags p 1) flags) (w.seen ++ (s ∷ []))) at-it
-              (flags_more h s low flags w.seen flag (omega (arith, w.flags_all, room.flags_all))
-              (one.flagged ∙ ap (λ (p : ℕ). names input_letter p s && is_controllable_name s.name) (sym at-it)) w.flagged);
-          whole = next ∙ rw (e.0, symbol_lines, one.is, add-one here.line);
-          marks_all = length-set marks slot 1 ∙ w.marks_all;
-          flags_all = kept flag ∙ w.flags_all;
-          within = line_ends_within file here.at end ends w.within;
-          line = omega (arith, w.line, length-append w.seen (s ∷ []));
-          count = omega (arith, w.count, line_positive file here.at more, length-append w.seen (s ∷ []));
-        })
-      where
-        kept : (b : Bool) → length (cond b (set flags position 1) flags) ≡ length flags
-        kept true = length-set flags position 1
-        kept false = refl
+    module _ (v : Value) (e : SymbolAs h marks line (Ok (Some v))) where
+      one : IsSymbol h (symbol_of h w.seen line) v
+      one = e.1 w.seen w.named
+
+      low : one.symbol.position < positions h one.symbol.letter
+      low = subst (λ (p : ℕ). p < positions h one.symbol.letter) (sym one.at) one.below
+
+      pub slot_fits : v.slot < length marks
+      slot_fits =
+          let mine = slot_below h one.symbol.letter one.symbol.position (valid h one.symbol.letter one.symbol.position low) in
+          omega (arith, one.marked, ap (slot_of h one.symbol.letter) one.at, mine, few.inputs, few.latches, few.outputs, w.marks_all)
+
+      flag_is : v.controls ≡ (names input_letter one.symbol.position one.symbol && is_controllable_name one.symbol.name)
+      flag_is = one.flagged ∙ ap (λ (p : ℕ). names input_letter p one.symbol && is_controllable_name one.symbol.name) (sym one.at)
+
+      pub position_fits : v.controls ≡ true → v.position < length flags
+      position_fits c = omega (arith, inside h one.symbol low (sym c ∙ flag_is), one.at, few.inputs, w.flagged.long)
+
+      pub symbolling_goes_on : (flags' : List ℕ) (k' : ℕ) → length behind < length left → k' ≡ k + 1
+          → flags' ≡ cond v.controls (set flags v.position 1) flags → Symbolling h bytes at (set marks v.slot 1) flags' behind k'
+      unfolding symbol_lines or_bad_symbol one
+      symbolling_goes_on flags' k' fewer after f =
+          let s = one.symbol in
+          let place : suc (2 + line_count h + k) ≡ 2 + line_count h + k' = omega (arith, after) in
+          rw f
+          (record {
+            seen = w.seen ++ (s ∷ []);
+            named = subst (λ (j : ℕ). Named h (set marks j 1) (w.seen ++ (s ∷ []))) (ap (slot_of h s.letter) one.at ∙ sym one.marked)
+                (named_more h s low marks w.seen (omega (arith, w.marks_all, few.inputs, few.latches, few.outputs)) w.named);
+            flagged =
+                subst (λ (p : ℕ). Flags h.inputs (cond v.controls (set flags p 1) flags) (w.seen ++ (s ∷ []))) one.at
+                (flags_more h s low flags w.seen v.controls (omega (arith, w.flagged.long, few.inputs)) flag_is w.flagged);
+            whole = next ∙ rw (e.0, symbol_lines, one.is) (ap (λ (p : ℕ). symbol_lines h p (w.seen ++ (s ∷ [])) (lines behind)) place);
+            marks_all = length-set marks v.slot 1 ∙ w.marks_all;
+            count = omega (arith, w.count, fewer, after);
+          })

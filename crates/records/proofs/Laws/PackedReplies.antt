@@ -1,14 +1,12 @@
 -- What holds of a packed table of replies (02, T-07), once for all C: every reply read from it equals the one of the byte table. Assumes nothing.
-use Prim.Native.Nat.{ℕ, ◌+◌, ◌*◌, ◌/◌, ◌%◌, ◌^◌, ◌<◌, ◌≤◌}
+use Prim.Native.Nat.{ℕ, ◌+◌, ◌*◌, ◌/◌, ◌%◌, ◌^◌, ◌<◌}
 use native.Mathlib.Nat.{mod-lt, mul_comm}
-use native.Mathlib.Omega.{arith}
 use mathlib.Core.Bool.{false}
 use mathlib.Core.List.{List, []}
-use mathlib.Core.Path.{◌≡◌, sym, ap, ap₂, ◌∙◌, subst}
+use mathlib.Core.Path.{◌≡◌, sym, ap, ◌∙◌, subst}
 use lib.ListN.{length}
-use lib.Pow.{pow_pos, pow_mono}
+use lib.Pow.{pow_pos}
 use Rattle.bits.specs.BitBytes.{unused_bit}
-use Rattle.bits.specs.Packed.{packed_number}
 use Rattle.bits.proofs.Laws.Packed.{packed_reads, packed_below, packed_length_lem, packed_no_unused, packed_zero}
 use Rattle.records.specs.PackedReplies.{packed_length, packed_reply, packed_reply_bytes}
 use Rattle.records.specs.ReplyBytes.{byte_reply, reply_bytes}
@@ -44,13 +42,3 @@ packed_empty replies L U = packed_zero (λ i. replies (i / 2 ^ U) (i % 2 ^ U)) (
 pub packed_reply_below : (bytes : List ℕ) (L U C s r : ℕ) → packed_reply bytes L U C s r < 2 ^ C
 unfolding packed_reply
 packed_reply_below bytes L U C s r = packed_below bytes C (s % 2 ^ L * 2 ^ U + r % 2 ^ U)
-
--- by the row and the column, as code takes them; within a circuit's limits the index is small
-module _ (L U s r row column : ℕ) (rows : row ≡ s % 2 ^ L) (columns : column ≡ r % 2 ^ U) where
-  pub packed_reply_at : (bytes : List ℕ) (C : ℕ) → packed_number bytes C (row * 2 ^ U + column) ≡ packed_reply bytes L U C s r
-  unfolding packed_reply
-  packed_reply_at bytes C = ap₂ (λ (a b : ℕ). packed_number bytes C (a * 2 ^ U + b)) rows columns
-
-  pub packed_place_small : L ≤ 10 → U ≤ 5 → row * 2 ^ U + column < 2 ^ 15
-  packed_place_small h l =
-      rw (rows, columns) (omega (arith, reply-place L U s r, pow_mono {i = L + U} {j = 15} (omega arith)))

@@ -26,16 +26,18 @@ module _ (L U s r : ℕ) where
   byte_reads replies =
       get_or_table (λ i. replies (i / 2 ^ U) (i % 2 ^ U)) (2 ^ (L + U)) (s % 2 ^ L * 2 ^ U + r % 2 ^ U) 0 reply-place ∙ reply_there replies
 
+-- with so many readings only state 0 has a place among bytes that a list can hold
+pub byte_reply_far : (bytes : List ℕ) (L U s r : ℕ) → 0 < s % 2 ^ L → 63 ≤ U → length bytes < 2 ^ 63 → byte_reply bytes L U s r ≡ 0
+unfolding byte_reply
+byte_reply_far bytes L U s r h l short =
+    get_or-eq_default bytes 0 {n = s % 2 ^ L * 2 ^ U + r % 2 ^ U}
+    (omega (arith, mul-le-mul_right {m = 1} {n = s % 2 ^ L} (2 ^ U) h, pow_mono {i = 63} {j = U} l))
+
+-- a reply by its row and column
 module _ (bytes : List ℕ) (L U s r row column : ℕ) (rows : row ≡ s % 2 ^ L) (columns : column ≡ r % 2 ^ U) where
-  pub byte_reply_at : byte_reply bytes L U s r ≡ get_or bytes (row * 2 ^ U + column) 0
+  byte_reply_at : byte_reply bytes L U s r ≡ get_or bytes (row * 2 ^ U + column) 0
   unfolding byte_reply
   byte_reply_at = ap₂ (λ (a b : ℕ). get_or bytes (a * 2 ^ U + b) 0) (sym rows) (sym columns)
 
   pub byte_reply-first : row ≡ 0 → byte_reply bytes L U s r ≡ get_or bytes column 0
   byte_reply-first e = byte_reply_at ∙ ap (λ (n : ℕ). get_or bytes n 0) (ap (λ (m : ℕ). m * 2 ^ U + column) e ∙ omega arith)
-
-  pub byte_reply_past : length bytes < row * 2 ^ U → byte_reply bytes L U s r ≡ 0
-  byte_reply_past h = byte_reply_at ∙ get_or-eq_default bytes 0 {n = row * 2 ^ U + column} (omega arith)
-
-  pub byte_reply_far : 0 < row → 63 ≤ U → length bytes < 2 ^ 63 → byte_reply bytes L U s r ≡ 0
-  byte_reply_far h l short = byte_reply_past (omega (arith, mul-le-mul_right {m = 1} {n = row} (2 ^ U) h, pow_mono {i = 63} {j = U} l))

@@ -24,7 +24,7 @@ some_state : (c : Circuit) → 0 < (circuit_game c).states
 unfolding circuit_game
 some_state c = pow_pos (latch_count c)
 
-zero_or_not : (n : ℕ) → eqb n 0 ≡ not (ltb 0 n)
+pub zero_or_not : (n : ℕ) → eqb n 0 ≡ not (ltb 0 n)
 zero_or_not n =
     elim (dec_lt 0 n) [
       | yes h ↦ ne_eqb n 0 (λ e. omega arith) ∙ sym (ap not (lt-ltb 0 n h))

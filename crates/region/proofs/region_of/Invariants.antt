@@ -1,16 +1,8 @@
--- What `region::region_of` keeps from turn to turn: what is passed is as the bytes of the states say.
-use Prim.Native.Nat.{◌-◌, ◌/◌, ◌^◌, ◌≤◌}
+-- What `region::region_of` keeps from turn to turn: the region of the states passed.
 use mathlib.Core.Path.{◌≡◌}
-use lib.ListN.{length}
-use Rattle.below.proofs.Laws.Filled.{Filled}
-use Rattle.circuit.specs.Limits.{base}
+use Rattle.region.specs.RegionTable.{region_table}
 use Rattle.solver.specs.Over.{rank_zero}
-use Rattle.bits.specs.BitBytes.{bit_byte}
 use Rattle.region.proofs.region_of.Given as goal
 
-abbrev pub invariant-loop-j : goal.invariant-loop-j
-invariant-loop-j l =
-    Filled (bit_byte (rank_zero l.ranks) l.states) l.initial.bytes l.j l.bytes × (length l.initial.bytes ≡ 2 ^ base.latches / 8) × (l.j ≤ 2 ^ base.latches / 8)
-
-abbrev pub decreases-loop-j : goal.decreases-loop-j
-decreases-loop-j l = 2 ^ base.latches / 8 - l.j
+abbrev pub invariant-loop-s : goal.invariant-loop-s
+invariant-loop-s l = l.bytes ≡ region_table (rank_zero l.ranks) l.s

@@ -1,53 +1,29 @@
--- Whether a lane keeps, by its error and its next state; and the lanes tried from one on. Assumes nothing.
-use Prim.Native.Nat.{ℕ, ◌+◌, ◌-◌, ◌<◌, ◌≤◌}
+-- What some number from one on passes, as a list of those numbers has it. Assumes nothing.
+use Prim.Native.Nat.{ℕ, zero, suc, ◌+◌, ◌<◌}
 use native.Mathlib.Omega.{arith}
-use native.Mathlib.Decide.{dec_lt}
-use mathlib.Core.Bool.{Bool, true, false, not, ◌&&◌}
-use mathlib.Core.List.{List}
-use mathlib.Core.Path.{◌≡◌, sym, ap, ◌∙◌}
-use Rattle.below.specs.Least.{any}
-use Rattle.below.proofs.Laws.Least.{any_of, none_any}
-use Rattle.blocks.specs.Evaluated.{error_in, next_in}
-use Rattle.blocks.specs.Lane.{Truths}
-use Rattle.game.specs.NetGame.{keeps_by}
+use mathlib.Core.Bool.{Bool, true, false, ◌||◌}
+use mathlib.Core.Path.{◌≡◌, refl, sym, ap, ◌∙◌}
+use Rattle.std.specs.List.{list_any, range_with_len}
+use Rattle.below.specs.Least.{least, any}
+use Rattle.below.proofs.Laws.Least.{any_of, any-least, any_holds, any_none, none_any}
 
-module _ (set : ℕ → Bool) (net : List ℕ) (lits : Truths) (error : Bool) (found : error ≡ error_in net lits) where
-  -- one with error keeps nowhere
-  pub error_fails : error ≡ true → false ≡ keeps_by set net lits
-  unfolding keeps_by
-  error_fails e = sym (ap (λ (b : Bool). not b && set (next_in net lits)) (sym found ∙ e))
-
-  -- one without error keeps where its next state is in the set
-  pub next_decides : (b : Bool) (next : ℕ) → error ≡ false → next ≡ next_in net lits → b ≡ set next → b ≡ keeps_by set net lits
-  unfolding keeps_by
-  next_decides b next e n f = f ∙ ap set n ∙ sym (ap (λ (d : Bool). not d && set (next_in net lits)) (sym found ∙ e))
-
--- none of the lanes passed keeps
-module _ (p : ℕ → Bool) (from last : ℕ) where
-  pub record Tried (j : ℕ) : Type 0 where
-    pub behind : from ≤ j
-    pub none : (i : ℕ) → from ≤ i → i < j → p i ≡ false
-
-  pub tried_start : Tried from
-  tried_start = record { behind = omega arith; none = λ i h l. absurd (omega arith) }
-
-  pub tried_next : (j : ℕ) → Tried j → p j ≡ false → Tried (j + 1)
-  tried_next j tried e =
-      record {
-        behind = omega (arith, tried.behind);
-        none = λ i h l. elim (dec_lt i j) [ yes a ↦ tried.none i h a | no a ↦ here i (omega arith) ];
-      }
+module _ (p : ℕ → Bool) where
+  pub some_from : (a n : ℕ) → list_any p (range_with_len a n) ≡ any (λ i. p (a + i)) n
+  some_from a zero = sym (none_any (λ i. p (a + i)) zero (λ j h. absurd (omega arith)))
+  some_from a (suc n) = ap (λ (b : Bool). p a || b) (some_from (a + 1) n) ∙ by (p a) (any later n) refl refl
     where
-      here : (i : ℕ) → i ≡ j → p i ≡ false
-      here i q = ap p q ∙ e
+      later : ℕ → Bool
+      later i = p (a + 1 + i)
 
-  module _ (n : ℕ) (count : last ≡ n) where
-    pub tried_kept : (j : ℕ) → Tried j → j < last → p j ≡ true → true ≡ any (λ i. p (from + i)) (n - from)
-    tried_kept j tried h e =
-        sym (any_of (λ i. p (from + i)) (n - from) (j - from) (omega (arith, tried.behind)) (ap p (there tried.behind) ∙ e))
-      where
-        there : from ≤ j → from + (j - from) ≡ j
-        there l = omega arith
+      all : ℕ → Bool
+      all i = p (a + i)
 
-    pub tried_end : (j : ℕ) → Tried j → last ≤ j → false ≡ any (λ i. p (from + i)) (n - from)
-    tried_end j tried h = sym (none_any (λ i. p (from + i)) (n - from) (λ i l. tried.none (from + i) (omega arith) (omega arith)))
+      by : (b d : Bool) → p a ≡ b → any later n ≡ d → (b || d) ≡ any all (suc n)
+      by true d e f = sym (any_of all (suc n) zero (omega arith) (ap p (omega arith) ∙ e))
+      by false true e f =
+          sym (any_of all (suc n) (suc (least later n)) (omega (arith, any-least later n f)) (ap p (omega arith) ∙ any_holds later n f))
+      by false false e f = sym (none_any all (suc n) none)
+        where
+          none : (j : ℕ) → j < suc n → all j ≡ false
+          none zero h = ap p (omega arith) ∙ e
+          none (suc j) h = ap p (omega arith) ∙ any_none later n j f (omega arith)

@@ -1,34 +1,20 @@
--- `rules::some_keeps` meets its contract: none of the lanes passed keeps. Assumes nothing.
-use Prim.Native.Nat.{min}
-use mathlib.Core.Path.{sym, ◌∙◌}
-use Rattle.blocks.specs.Lane.{width}
-use Rattle.rules.proofs.Laws.Lanes.{tried_start, tried_next, tried_kept, tried_end}
+-- `rules::some_keeps` meets its contract: the lanes are tried in turn. Assumes nothing.
+use Rattle.std.proofs.Common.{ℕ, ◌-◌, ◌∙◌, min, refl, rules, tests}
+use Rattle.std.proofs.lemmas.Iterator.{YieldsList-from_range}
+use Rattle.std.proofs.lemmas.Iterator.Search.{any_from_yields_List}
+use Rattle.blocks.specs.Lane.{lits_in, width}
+use Rattle.game.specs.NetGame.{keeps_by}
+use Rattle.game.specs.Rank.{not_ranked}
+use Rattle.records.specs.AttackTable.{stored_rank}
+use Rattle.rules.proofs.Laws.Lanes.{some_from}
 use Rattle.rules.proofs.some_keeps.Goals as goal
-use Rattle.rules.proofs.some_keeps.Invariants.{kept}
-
-pub loop-j-init : goal.loop-j-init
-loop-j-init c = tried_start _ _ _
-
-pub returns-then-lane_keeps : goal.returns-then-lane_keeps
-returns-then-lane_keeps c =
-    let a = c.args in
-    let n = c.fewer-last in
-    let l = c.loop-j in
-    tried_kept (kept a.net.now a.words.now a.table.now a.latches a.bound) a.from n.result (min a.end width) n.ensures
-    l.j l.invariant c.loop-j-test.true (sym c.lane_keeps.ensures ∙ c.if-lane_keeps.true)
-
-pub loop-j-preserved : goal.loop-j-preserved
-loop-j-preserved c =
-    let a = c.args in
-    let n = c.fewer-last in
-    let l = c.loop-j in
-    tried_next (kept a.net.now a.words.now a.table.now a.latches a.bound) a.from n.result l.j l.invariant
-    (sym c.lane_keeps.ensures ∙ c.if-lane_keeps.false)
 
 pub returns : goal.returns
+unfolding keeps_by
 returns c =
     let a = c.args in
-    let n = c.fewer-last in
-    let l = c.loop-j in
-    tried_end (kept a.net.now a.words.now a.table.now a.latches a.bound) a.from n.result (min a.end width) n.ensures
-    l.j l.invariant c.loop-j-test.false
+    let keeps = λ (j : ℕ). keeps_by (not_ranked (stored_rank a.table.now a.latches) a.bound) a.net.now (lits_in a.words.now j) in
+    any_from_yields_List keeps _ _ _ c.any.ensures.ran
+    (YieldsList-from_range a.from (min a.end width) (min a.end width - a.from) (λ i. record { start = a.from; end = c.min.ensures i }) refl)
+    (λ x b q k. search (rules, tests))
+    ∙ some_from keeps a.from (min a.end width - a.from)

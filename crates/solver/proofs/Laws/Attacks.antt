@@ -5,11 +5,12 @@ use native.Mathlib.Omega.{arith}
 use native.Mathlib.Decide.{dec_lt}
 use mathlib.Core.Bool.{Bool, true, cond, not}
 use mathlib.Core.List.{List}
-use mathlib.Core.Path.{◌≡◌, refl, sym, ap, ap₂, ◌∙◌}
+use mathlib.Core.Path.{◌≡◌, refl, sym, ap, ◌∙◌}
 use lib.Dec.{ltb}
 use lib.ListN.{length, get_or, get_or-eq_default}
 use lib.Seq.{ext_get_or}
 use borrow.Author.Tests.{lt-ltb, le-ltb}
+use Rattle.std.proofs.Common.{Some, None}
 use Rattle.below.specs.Least.{least, any}
 use Rattle.below.specs.Table.{table}
 use Rattle.below.proofs.Laws.Least.{least_same}
@@ -23,6 +24,7 @@ use Rattle.game.proofs.Laws.Rank.{settled}
 use Rattle.game.proofs.Laws.Rounds.{Later, stays, none, after, later_than}
 use Rattle.keeping.specs.RankList.{ranks_in}
 use Rattle.solver.specs.Inner.AttacksAfter.{attack_after, attacks_after}
+use Rattle.solver.specs.Inner.Answers.{LeastBelow}
 use Rattle.solver.specs.Inner.Fair.{Fair}
 use Rattle.solver.specs.Over.{found}
 use Rattle.solver.specs.RankTable.{rank_table, round_table}
@@ -216,10 +218,10 @@ module _ (g : Game) (k : ℕ) (ranks : List ℕ) (attack s x : ℕ) (is : x ≡ 
   unfolding attack_after
   attack-kept h = rw (lt-ltb 0 (ranks_in ranks s) (omega arith))
 
-  pub attack_new : (r n : ℕ) → x ≤ 0 → r ≡ least (defeats g (ranks_in ranks) k s) g.readings → n ≡ g.readings → r < n → r ≡ attack_after g k ranks attack s
+  pub attack_new : (r : ℕ) → x ≤ 0 → LeastBelow (defeats g (ranks_in ranks) k s) g.readings (Some r) → r ≡ attack_after g k ranks attack s
   unfolding attack_after
-  attack_new r n h e f l = rw (le-ltb 0 (ranks_in ranks s) (omega arith)) (found_below r n l ∙ ap₂ found e f)
+  attack_new r h found = rw (le-ltb 0 (ranks_in ranks s) (omega arith), sym found.least) (found_below r g.readings found.within)
 
-  pub attack_none : (r n : ℕ) → x ≤ 0 → r ≡ least (defeats g (ranks_in ranks) k s) g.readings → n ≡ g.readings → n ≤ r → 0 ≡ attack_after g k ranks attack s
+  pub attack_none : x ≤ 0 → LeastBelow (defeats g (ranks_in ranks) k s) g.readings None → 0 ≡ attack_after g k ranks attack s
   unfolding attack_after
-  attack_none r n h e f l = rw (le-ltb 0 (ranks_in ranks s) (omega arith)) (found_none r n l ∙ ap₂ found e f)
+  attack_none h found = rw (le-ltb 0 (ranks_in ranks s) (omega arith), sym found.least) (found_none g.readings g.readings (omega arith))

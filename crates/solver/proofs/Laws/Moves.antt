@@ -1,17 +1,18 @@
 -- A move by its number is the move of a state, a reading and a control; so a control that keeps at a place keeps in the game. Assumes nothing.
-use Prim.Native.Nat.{ℕ, ◌+◌, ◌*◌, ◌/◌, ◌%◌, ◌^◌, ◌<◌, ◌≤◌, min}
+use Prim.Native.Nat.{ℕ, ◌+◌, ◌*◌, ◌/◌, ◌%◌, ◌^◌, min, ◌<◌, ◌≤◌}
 use native.Mathlib.Omega.{arith}
 use native.Mathlib.Decide.{dec_lt}
 use native.Mathlib.Nat.{div-lt_iff_lt-mul, mod-lt, mul-le-mul, div-add-mod', mod-eq_of_lt, suc-mul}
 use native.Mathlib.Numerals.{add-one}
 use mathlib.Core.Bool.{Bool, not}
 use mathlib.Core.List.{List}
-use mathlib.Core.Path.{◌≡◌, refl, sym, ap, ap₂, ◌∙◌, subst}
+use mathlib.Core.Path.{◌≡◌, refl, sym, ap, ◌∙◌, subst}
 use lib.Arith.{digits_lt}
 use lib.Dec.{leb, ltb}
-use lib.ListN.{get_or}
 use lib.Pow.{pow_pos, pow_mono}
 use borrow.Author.Tests.{lt-ltb, le-ltb, le-leb, lt-leb}
+use lib.ListN.{get_or}
+use Rattle.std.proofs.Common.{Option}
 use Rattle.below.specs.Least.{least, any}
 use Rattle.below.proofs.Laws.Least.{least_same}
 use Rattle.circuit.specs.Limits.{base}
@@ -19,6 +20,7 @@ use Rattle.game.specs.Keeps.{keeps, answered}
 use Rattle.game.specs.Rank.{not_ranked, defeats}
 use Rattle.net.specs.Move.{move_of}
 use Rattle.net.specs.Net.{net_controls, net_readings, net_latches, net_step}
+use Rattle.solver.specs.Inner.Answers.{LeastBelow}
 use Rattle.solver.specs.Inner.Moves.{Small, move_keeps, place_keeps, places}
 use Rattle.game.specs.NetGame.{net_move, net_game}
 
@@ -66,15 +68,15 @@ module _ (net : List ℕ) (p : ℕ) (within : p < places net) where
   pub reading_of : p % 2 ^ net_readings net < 2 ^ net_readings net
   reading_of = mod-lt p {m = 2 ^ net_readings net} (pow_pos (net_readings net))
 
-  pub least-place : (set : ℕ → Bool)
+  least_place : (set : ℕ → Bool)
       → least (place_keeps net set p) (2 ^ net_controls net) ≡ least (keeps (net_game net) set (p / 2 ^ net_readings net) (p % 2 ^ net_readings net))
       (2 ^ net_controls net)
-  least-place set = ap (λ (q : ℕ). least (place_keeps net set q) (2 ^ net_controls net)) (sym (div-add-mod' p (2 ^ net_readings net)))
+  least_place set = ap (λ (q : ℕ). least (place_keeps net set q) (2 ^ net_controls net)) (sym (div-add-mod' p (2 ^ net_readings net)))
       ∙ least-move net set (p / 2 ^ net_readings net) (p % 2 ^ net_readings net) state_of reading_of
 
-pub places_are : (net : List ℕ) (a b : ℕ) → a ≡ 2 ^ net_latches net → b ≡ 2 ^ net_readings net → a * b ≡ places net
-unfolding places
-places_are net a b e f = ap₂ {C = ℕ} (λ x y. x * y) e f
+  pub found_keeps : (set : ℕ → Bool) (found : Option ℕ) → LeastBelow (place_keeps net set p) (2 ^ net_controls net) found
+      → LeastBelow (keeps (net_game net) set (p / 2 ^ net_readings net) (p % 2 ^ net_readings net)) (2 ^ net_controls net) found
+  found_keeps set found got = record { least = got.least ∙ least_place set; within = got.within }
 
 -- a small net has no more states, readings and controls than a circuit may have
 module _ (net : List ℕ) (small : Small net) where

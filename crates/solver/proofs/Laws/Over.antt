@@ -3,9 +3,10 @@ use Prim.Native.Nat.{ℕ, ◌^◌, ◌<◌, ◌≤◌}
 use native.Mathlib.Omega.{arith}
 use mathlib.Core.Bool.{Bool, true, false, cond, not, ◌&&◌}
 use mathlib.Core.List.{List}
-use mathlib.Core.Path.{◌≡◌, refl, sym, ap, ap₂, ◌∙◌, fun_ext}
+use mathlib.Core.Path.{◌≡◌, refl, sym, ap, ◌∙◌, fun_ext}
 use lib.Dec.{leb, ltb}
 use borrow.Author.Tests.{lt-ltb, le-ltb, le-leb}
+use Rattle.std.proofs.Common.{Some, None}
 use Rattle.below.specs.Least.{least}
 use Rattle.below.proofs.Laws.Least.{least_same}
 use Rattle.circuit.specs.Limits.{base}
@@ -16,6 +17,7 @@ use Rattle.game.specs.Reply.{reply}
 use Rattle.game.proofs.Laws.Keeps.{keeps_same}
 use Rattle.game.proofs.Laws.Reply.{reply-is_control}
 use Rattle.keeping.specs.RankList.{ranks_in}
+use Rattle.solver.specs.Inner.Answers.{LeastBelow}
 use Rattle.solver.specs.Over.{rank_zero, found, reply_over}
 use Rattle.solver.specs.RankTable.{rank_table}
 use Rattle.solver.proofs.Laws.RankTable.{rank_in_table}
@@ -53,11 +55,17 @@ module _ (g : Game) (ranks : List ℕ) (s : ℕ) (x : ℕ) (is : x ≡ ranks_in 
   unfolding reply_over
   no_reply r h = rw (zero_false h)
 
-  pub reply-found : (bound r k n b : ℕ) → ((t : ℕ) → ranks_in ranks t ≤ bound) → x ≤ 0 → k ≡ least (keeps g (not_ranked (ranks_in ranks) bound) s r) g.controls
-      → n ≡ g.controls → b ≡ found k n → b ≡ reply_over g ranks s r
-  unfolding reply_over
-  reply-found bound r k n b most h e f q =
-      rw (zero_true h) (q ∙ ap₂ found (e ∙ ap (λ (set : ℕ → Bool). least (keeps g set s r) g.controls) (unranked-is_zero ranks bound most)) f)
+  module _ (bound r : ℕ) (most : (t : ℕ) → ranks_in ranks t ≤ bound) (low : x ≤ 0) where
+    reply_is : reply_over g ranks s r ≡ found (least (keeps g (not_ranked (ranks_in ranks) bound) s r) g.controls) g.controls
+    unfolding reply_over
+    reply_is =
+        rw (zero_true low) (ap (λ (set : ℕ → Bool). found (least (keeps g set s r) g.controls) g.controls) (sym (unranked-is_zero ranks bound most)))
+
+    pub reply_found : (k : ℕ) → LeastBelow (keeps g (not_ranked (ranks_in ranks) bound) s r) g.controls (Some k) → k ≡ reply_over g ranks s r
+    reply_found k got = found_below k g.controls got.within ∙ ap (λ (i : ℕ). found i g.controls) got.least ∙ sym reply_is
+
+    pub none_found : LeastBelow (keeps g (not_ranked (ranks_in ranks) bound) s r) g.controls None → 0 ≡ reply_over g ranks s r
+    none_found got = found_none g.controls g.controls (omega arith) ∙ ap (λ (i : ℕ). found i g.controls) got.least ∙ sym reply_is
 
 module _ (g : Game) (proper : Proper g) (few : g.states ≤ 2 ^ base.latches) where
   -- the states of rank 0 in the list of ranks are those of the region

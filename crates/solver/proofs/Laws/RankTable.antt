@@ -7,12 +7,12 @@ use native.Mathlib.Numerals.{add-one}
 use mathlib.Core.Bool.{Bool, true, false, cond, not, ◌&&◌}
 use mathlib.Core.List.{List}
 use mathlib.Core.Path.{◌≡◌, refl, sym, ap, ap₂, ◌∙◌}
-use lib.Dec.{leb, ltb, eqb}
+use lib.Dec.{leb, ltb}
 use lib.ListN.{length}
-use borrow.Author.Tests.{lt-ltb, le-ltb, eqb-true, not-false}
+use borrow.Author.Tests.{lt-ltb, le-ltb}
+use Rattle.std.proofs.Common.{Some, None}
 use Rattle.below.specs.Least.{least, any}
 use Rattle.below.specs.Table.{table}
-use Rattle.below.proofs.Laws.Least.{any_none}
 use Rattle.below.proofs.Laws.Table.{length_table, get_or_table, get_or_table_past, table_same}
 use Rattle.circuit.specs.Limits.{base}
 use Rattle.game.specs.Game.{Game, Proper}
@@ -20,6 +20,7 @@ use Rattle.game.specs.Rank.{not_ranked, defeats, defeated, round, ranks_after, r
 use Rattle.game.proofs.Laws.Keeps.{answered_same, defeated-by}
 use Rattle.game.proofs.Laws.Rounds.{defeated_same, Still, still_ranks, rank_most}
 use Rattle.keeping.specs.RankList.{ranks_in}
+use Rattle.solver.specs.Inner.Answers.{LeastBelow}
 use Rattle.solver.specs.Inner.Fair.{Fair}
 use Rattle.solver.specs.RankTable.{rank_table, round_table}
 
@@ -43,17 +44,24 @@ module _ (g : Game) (k : ℕ) (ranks : ℕ → ℕ) (s x : ℕ) (is : x ≡ rank
   unfolding round
   rank-kept h = rw (lt-ltb 0 (ranks s) (omega arith)) is
 
-  defeat_found : (r n : ℕ) → r ≡ least (defeats g ranks k s) g.readings → n ≡ g.readings → defeated g ranks k s ≡ ltb r n
-  unfolding any
-  defeat_found r n e f = defeated-by g ranks k s ∙ sym (ap₂ ltb e f)
+  pub rank-given : (r : ℕ) → x ≤ 0 → LeastBelow (defeats g ranks k s) g.readings (Some r) → k + 1 ≡ round g k ranks s
+  unfolding round any
+  rank-given r h found =
+      rw (
+        le-ltb 0 (ranks s) (omega arith),
+        defeated-by g ranks k s ∙ lt-ltb (least (defeats g ranks k s) g.readings) g.readings (omega (
+          arith,
+          found.least,
+          found.within,
+        )),
+      ) (add-one k)
 
-  pub rank-given : (r n : ℕ) → x ≤ 0 → r ≡ least (defeats g ranks k s) g.readings → n ≡ g.readings → r < n → k + 1 ≡ round g k ranks s
-  unfolding round
-  rank-given r n h e f l = rw (le-ltb 0 (ranks s) (omega arith), defeat_found r n e f, lt-ltb r n l) (add-one k)
-
-  pub rank_none : (r n : ℕ) → x ≤ 0 → r ≡ least (defeats g ranks k s) g.readings → n ≡ g.readings → n ≤ r → 0 ≡ round g k ranks s
-  unfolding round
-  rank_none r n h e f l = rw (le-ltb 0 (ranks s) (omega arith), defeat_found r n e f, le-ltb r n l)
+  pub rank_none : x ≤ 0 → LeastBelow (defeats g ranks k s) g.readings None → 0 ≡ round g k ranks s
+  unfolding round any
+  rank_none h found = rw (
+    le-ltb 0 (ranks s) (omega arith),
+    defeated-by g ranks k s ∙ le-ltb (least (defeats g ranks k s) g.readings) g.readings (omega (arith, found.least)),
+  )
 
 -- the list after n rounds
 unfoldable pub table_after : Game → ℕ → List ℕ
@@ -108,37 +116,17 @@ module _ (g : Game) (proper : Proper g) (few : g.states ≤ 2 ^ base.latches) wh
       behind s l = rw (le-ltb s g.states l) (behind_table g few k s l)
 
   -- a round that changes nothing is the last that could
-  pub unchanged_is_last : (k : ℕ) → k ≤ g.states → any (λ s. not (eqb (ranks_in (table_after g k) s) (ranks_in (table_after g (k + 1)) s))) g.states ≡ false
-      → table_after g k ≡ rank_table g
+  unchanged_is_last : (k : ℕ) → k ≤ g.states → table_after g (k + 1) ≡ table_after g k → table_after g k ≡ rank_table g
   unfolding table_after rank_table
   unchanged_is_last k l e = table_same _ _ (2 ^ base.latches) (λ s h. elim (dec_lt s g.states) [
-    | yes m ↦ ap (cond' s) (still_ranks g proper k s still l m)
-    | no m ↦ beyond s (omega arith)
-  ])
-    where
-      cond' : ℕ → ℕ → ℕ
-      cond' s n = cond (ltb s g.states) n 0
-
-      beyond : (s : ℕ) → g.states ≤ s → cond (ltb s g.states) (ranks_after g k s) 0 ≡ cond (ltb s g.states) (rank g s) 0
-      beyond s m = rw (le-ltb s g.states m)
-
-      same : (s : ℕ) → s < g.states → ranks_in (table_after g k) s ≡ ranks_in (table_after g (k + 1)) s
-      same s h = eqb-true _ _ (not-false _ (any_none (λ t. not (eqb (ranks_in (table_after g k) t) (ranks_in (table_after g (k + 1)) t))) g.states s e h))
-
-      still : Still g k
-      still =
-          still_of g k (λ s h. sym (ap (λ (n : ℕ). ranks_after g n s) (add-one k)) ∙ sym (in_table g few (k + 1) s h) ∙ sym (same s h) ∙ in_table g few k s h)
-
-  pub unchanged_table : (k : ℕ) → any (λ s. not (eqb (ranks_in (table_after g k) s) (ranks_in (table_after g (k + 1)) s))) g.states ≡ false
-      → table_after g (k + 1) ≡ table_after g k
-  unfolding table_after
-  unchanged_table k e = table_same _ _ (2 ^ base.latches) (λ s h. elim (dec_lt s g.states) [
-    | yes m ↦ ap (λ (n : ℕ). cond (ltb s g.states) n 0) (sym (in_table g few (k + 1) s m) ∙ sym (same s m) ∙ in_table g few k s m)
+    | yes m ↦ ap (λ (n : ℕ). cond (ltb s g.states) n 0) (still_ranks g proper k s still l m)
     | no m ↦ rw (le-ltb s g.states (omega arith))
   ])
     where
-      same : (s : ℕ) → s < g.states → ranks_in (table_after g k) s ≡ ranks_in (table_after g (k + 1)) s
-      same s h = eqb-true _ _ (not-false _ (any_none (λ t. not (eqb (ranks_in (table_after g k) t) (ranks_in (table_after g (k + 1)) t))) g.states s e h))
+      still : Still g k
+      still =
+          still_of g k (λ s h. sym (ap (λ (n : ℕ). ranks_after g n s) (add-one k)) ∙ sym (in_table g few (k + 1) s h) ∙ ap (λ (l : List ℕ). ranks_in l s) e
+          ∙ in_table g few k s h)
 
 -- the list after k rounds, of at most as many as there are states
 pub record Ranked (g : Game) (states k : ℕ) (ranks : List ℕ) : Type 0 where
@@ -164,13 +152,8 @@ module _ (g : Game) (states k : ℕ) (ranks after : List ℕ) (fair : Fair g sta
   rounds_next h e = record { within = omega arith; is = next_is e }
 
   -- a round that changes nothing makes the list of ranks
-  pub rounds_stop : (changed : Bool) → after ≡ round_table g states k ranks → changed ≡ any (λ s. not (eqb (ranks_in ranks s) (ranks_in after s))) states
-      → changed ≡ false → after ≡ rank_table g
-  rounds_stop changed e f q = next_is e ∙ unchanged_table g fair.proper fair.few k none
-      ∙ unchanged_is_last g fair.proper fair.few k (omega (arith, ranked.within, fair.all)) none
-    where
-      none : any (λ s. not (eqb (ranks_in (table_after g k) s) (ranks_in (table_after g (k + 1)) s))) g.states ≡ false
-      none = sym (λ x. any (λ s. not (eqb (ranks_in (ranked.is x) s) (ranks_in (next_is e x) s))) (fair.all x)) ∙ sym f ∙ q
+  pub rounds_stop : after ≡ round_table g states k ranks → after ≡ ranks → after ≡ rank_table g
+  rounds_stop e f = f ∙ ranked.is ∙ unchanged_is_last g fair.proper fair.few k (omega (arith, ranked.within, fair.all)) (sym (next_is e) ∙ f ∙ ranked.is)
 
   pub rounds_end : states ≤ k → ranks ≡ rank_table g
   rounds_end h = ranked.is ∙ ap (table_after g) {x = k} {y = g.states} (omega (arith, ranked.within, fair.all)) ∙ table_last g

@@ -1,18 +1,35 @@
 -- The search for a move that keeps, a block at a time: a lane that keeps is the move looked for, and a block without one leaves the search
 -- behind its last lane. Assumes nothing.
-use Prim.Native.Nat.{ℕ, ◌+◌, ◌*◌, ◌-◌, ◌/◌, ◌%◌, min, ◌<◌, ◌≤◌}
+use Prim.Native.Nat.{ℕ, ◌+◌, ◌*◌, ◌-◌, ◌<◌, ◌≤◌}
 use native.Mathlib.Omega.{arith}
+use native.Mathlib.Decide.{dec_lt}
 use mathlib.Core.Bool.{Bool, true, false, not, ◌&&◌, true≢false}
 use mathlib.Core.List.{List}
-use mathlib.Core.Path.{◌≡◌, refl, sym, ap, ◌∙◌, subst}
-use lib.ListN.{get_or, take, drop}
+use mathlib.Core.Path.{◌≡◌, refl, sym, ap, ◌∙◌}
+use Rattle.std.proofs.Common.{Some, None}
 use Rattle.below.specs.LeastFrom.{least_from}
-use Rattle.below.proofs.Laws.LeastFrom.{Searched, searched_more, searched_found, from_le, from_holds, from_start, from-before}
+use Rattle.below.proofs.Laws.LeastFrom.{Searched, searched_more, searched_found, searched_end, from_found, from_none, from_same, from_le, from_holds, from_start, from-before}
 use Rattle.blocks.specs.Lane.{width, lane, move_in}
 use Rattle.keeping.specs.Inner.InLane.{lane_number, keeps_in}
-use Rattle.net.specs.Net.{net_latches}
+use Rattle.keeping.specs.declared.lane.Found.{Found}
+use Rattle.solver.specs.Inner.Answers.{MoveFrom}
 use Rattle.solver.specs.Inner.Moves.{move_keeps}
-use Rattle.solver.specs.Inner.Planes.{Holds}
+
+-- a search over numbers that all begin behind another
+from_shift : (p : ℕ → Bool) (c a b : ℕ) → c + least_from (λ j. p (c + j)) a b ≡ least_from p (c + a) (c + b)
+from_shift p c a b = elim (dec_lt l b) [
+  | yes h ↦ sym (from_found p (c + a) (c + b) (c + l) (omega (arith, from_start q a b h)) (omega arith) (from_holds q a b h) (λ i f g. before i f g))
+  | no h ↦ omega (arith, from_le q a b) ∙ sym (from_none p (c + a) (c + b) (λ i f g. before i f (omega (arith, from_le q a b))))
+]
+  where
+    q : ℕ → Bool
+    q j = p (c + j)
+
+    l : ℕ
+    l = least_from q a b
+
+    before : (i : ℕ) → c + a ≤ i → i < c + l → p i ≡ false
+    before i f g = ap p {x = i} {y = c + (i - c)} (omega arith) ∙ from-before q a b (i - c) (omega arith) (omega arith)
 
 -- where a lane keeps in some set, its state decides for each
 lane_leads : (some : ℕ → Bool) (error : ℕ) (next : List ℕ) (j : ℕ) → keeps_in some error next j ≡ true → (set : ℕ → Bool)
@@ -24,77 +41,54 @@ lane_leads some error next j e set = by (lane error j) e
     by true f = absurd (true≢false (sym f))
     by false f = refl
 
--- a turn of the search: a block that is held, and the least lane of it that keeps, from the move on that the search came to
-pub record Turn (net planes next : List ℕ) (at : ℕ) (set : ℕ → Bool) (from n m end j : ℕ) : Type 0 where
-  pub words : next ≡ take (net_latches net) (drop at planes)
-  pub ends : end ≡ min width (n - m / width * width)
-  pub searched : Searched (move_keeps net set) from n m
-  pub more : m < n
-  pub holds : Holds net planes at (m / width)
-  pub found : j ≡ least_from (keeps_in set (get_or planes (at + 10) 0) next) (m % width) end
-
-pub turn_of : {net planes : List ℕ} {at : ℕ} {set : ℕ → Bool} {from n m end j : ℕ} (latches : ℕ) → latches ≡ net_latches net
-    → end ≡ min width (n - m / width * width) → Searched (move_keeps net set) from n m → m < n → Holds net planes at (m / width)
-    → j ≡ least_from (keeps_in set (get_or planes (at + 10) 0) (take (at + latches - at) (drop at planes))) (m % width) end
-    → Turn net planes (take (at + latches - at) (drop at planes)) at set from n m end j
-turn_of {net} {planes} {at} latches count ends searched more holds found = record {
-  words = ap (λ (l : ℕ). take l (drop at planes)) {x = at + latches - at} {y = net_latches net} (omega arith);
-  ends = ends;
-  searched = searched;
-  more = more;
-  holds = holds;
-  found = found;
-}
-
-module _ {net planes next : List ℕ} {at : ℕ} {set : ℕ → Bool} {from n m end j : ℕ} (turn : Turn net planes next at set from n m end j) where
-  abbrev p : ℕ → Bool
-  p = move_keeps net set
-
-  abbrev error : ℕ
-  error = get_or planes (at + 10) 0
-
-  abbrev q : ℕ → Bool
-  q = keeps_in set error next
-
-  pub lane_within : j ≤ end
-  lane_within = omega (arith, turn.found, from_le q (m % width) end)
-
-  lane-says : (i : ℕ) → i < width → (these : ℕ → Bool) → keeps_in these error next i ≡ move_keeps net these (m / width * width + i)
+-- the lanes of a block whose planes say what its moves do
+module _ (net : List ℕ) (set : ℕ → Bool) (error : ℕ) (next : List ℕ) (block from end : ℕ)
+    (says : (j : ℕ) → j < width → (these : ℕ → Bool) → keeps_in these error next j ≡ move_keeps net these (move_in block j))
+    (starts : block * width ≤ from) (forward : from ≤ end) (one_block : end ≤ block * width + width) where
+  least_is : block * width + least_from (keeps_in set error next) (from - block * width) (end - block * width) ≡ least_from (move_keeps net set) from end
   unfolding move_in
-  lane-says i h these = ap (λ (l : List ℕ). keeps_in these error l i) turn.words ∙ turn.holds.says i h these
+  least_is =
+      ap (λ (i : ℕ). block * width + i) (from_same (keeps_in set error next) (λ j. move_keeps net set (block * width + j)) (from - block * width)
+      (end - block * width) (λ j h. says j (omega arith) set))
+      ∙ from_shift (move_keeps net set) (block * width) (from - block * width) (end - block * width)
+      ∙ ap (λ (a : ℕ). least_from (move_keeps net set) a (block * width + (end - block * width))) {x = block * width + (from - block * width)} {y = from}
+      (omega arith) ∙ ap (least_from (move_keeps net set) from) {x = block * width + (end - block * width)} {y = end} (omega arith)
 
-  in_lane : (i : ℕ) → i < width → p (m / width * width + i) ≡ q i
-  in_lane i h = sym (lane-says i h set)
+  pub block_none : end - block * width ≡ least_from (keeps_in set error next) (from - block * width) (end - block * width) → MoveFrom net set from end None
+  block_none e = record { number = omega (arith, least_is); within = tt; leads = tt }
 
-  fails : (i : ℕ) → m ≤ i → i < m / width * width + j → p i ≡ false
-  fails i a b = ap p here ∙ in_lane (i - m / width * width) (omega (arith, lane_within))
-      ∙ from-before q (m % width) end (i - m / width * width) (omega arith) (omega (arith, turn.found))
+  pub block_found : (lane lead : ℕ) → lane ≡ least_from (keeps_in set error next) (from - block * width) (end - block * width) → lane < end - block * width
+      → lead ≡ lane_number next lane → MoveFrom net set from end (Some (record { number = block * width + lane; lead = lead }))
+  unfolding move_in
+  block_found lane lead e h l = record {
+    number = omega (arith, least_is);
+    within = omega arith;
+    leads = λ these. sym (says lane (omega arith) these) ∙ lane_leads set error next lane keeps these ∙ ap these (sym l);
+  }
     where
-      here : i ≡ m / width * width + (i - m / width * width)
-      here = omega arith
+      keeps : keeps_in set error next lane ≡ true
+      keeps = ap (keeps_in set error next) e ∙ from_holds (keeps_in set error next) (from - block * width) (end - block * width) (omega (arith, e))
 
-  module _ (here : j < end) where
-    below : least_from q (m % width) end < end
-    below = subst (λ (i : ℕ). i < end) turn.found here
+-- a search that came to a move, and what was found from there on up to another
+module _ (net : List ℕ) (set : ℕ → Bool) (from end m next : ℕ) (searched : Searched (move_keeps net set) from end m) (more : m < end) (forward : m ≤ next)
+    (within : next ≤ end) where
+  pub found_here : (f : Found) → MoveFrom net set m next (Some f) → MoveFrom net set from end (Some f)
+  found_here f got = record {
+    number = searched_found (move_keeps net set) from end m f.number searched (omega (arith, got.number, from_start (move_keeps net set) m next low))
+        (omega (arith, got.within)) (ap (move_keeps net set) got.number ∙ from_holds (move_keeps net set) m next low)
+        (λ i a b. from-before (move_keeps net set) m next i a (omega (arith, got.number)));
+    within = omega (arith, got.within);
+    leads = got.leads;
+  }
+    where
+      low : least_from (move_keeps net set) m next < next
+      low = omega (arith, got.number, got.within)
 
-    lane-keeps : q j ≡ true
-    lane-keeps = ap q turn.found ∙ from_holds q (m % width) end below
+  pub none_here : MoveFrom net set m next None → Searched (move_keeps net set) from end next
+  none_here got =
+      searched_more (move_keeps net set) from end m next searched more forward within
+      (λ i a b. from-before (move_keeps net set) m next i a (omega (arith, got.number)))
 
-    pub lane-found : m / width * width + j ≡ least_from p from n
-    lane-found =
-        searched_found p from n m (m / width * width + j) turn.searched (omega (
-          arith,
-          turn.found,
-          from_start q (m % width) end below,
-        )) (omega arith) (in_lane j (omega arith) ∙ lane-keeps) fails
-
-    -- and where the move leads
-    pub lane_lead : (lead : ℕ) → lead ≡ lane_number next j → (these : ℕ → Bool) → move_keeps net these (m / width * width + j) ≡ these lead
-    lane_lead lead e these = sym (lane-says j (omega arith) these) ∙ lane_leads set error next j lane-keeps these ∙ ap these (sym e)
-
-  pub lane-later : end ≤ j → Searched p from n (m / width * width + j)
-  lane-later h = searched_more p from n m (m / width * width + j) turn.searched (omega arith) (omega (arith, lane_within)) (omega (arith, lane_within)) fails
-
-  -- the search goes on
-  pub lane_forward : end ≤ j → n - (m / width * width + j) < n - m
-  lane_forward h = omega (arith, lane_within)
+-- behind the last move none is left
+pub none_left : (net : List ℕ) (set : ℕ → Bool) (from end m : ℕ) → Searched (move_keeps net set) from end m → end ≤ m → MoveFrom net set from end None
+none_left net set from end m searched h = record { number = searched_end (move_keeps net set) from end m searched h; within = tt; leads = tt }

@@ -1,30 +1,25 @@
 -- The games that the solver plays: that of a circuit's net, or of the empty net where it has too many inputs of a sort; and the list of the
 -- game's replies. Assumes nothing.
-use Prim.Native.Nat.{ℕ, suc, ◌*◌, ◌/◌, ◌%◌, ◌^◌, min, ◌<◌, ◌≤◌}
+use Prim.Native.Nat.{ℕ, ◌*◌, ◌/◌, ◌%◌, ◌^◌, ◌<◌}
 use native.Mathlib.Omega.{arith}
 use native.Mathlib.Decide.{dec_lt}
 use mathlib.Core.Bool.{Bool, true, false, cond, ◌||◌}
-use mathlib.Core.List.{List, [], ◌∷◌, ◌++◌, map}
+use mathlib.Core.List.{List, [], ◌∷◌}
 use mathlib.Core.Path.{◌≡◌, refl, sym, ap, ◌∙◌, subst}
 use lib.Dec.{ltb}
-use lib.ListN.{length, get_or, take, replicate, length-take, length-append, length-map, length-replicate}
-use lib.Seq.{take-take, take-append_seam}
 use borrow.Author.Tests.{le-ltb}
 use Rattle.below.specs.Table.{table}
-use Rattle.below.proofs.Laws.Table.{table_same, length_table}
-use Rattle.circuit.specs.Circuit.{Circuit, Latch, Gate, latch_count, uncontrollable_count, controllable_count, inputs_that}
+use Rattle.below.proofs.Laws.Table.{table_same}
+use Rattle.circuit.specs.Circuit.{Circuit, latch_count, uncontrollable_count, controllable_count, inputs_that}
 use Rattle.circuit.specs.Limits.{base}
-use Rattle.circuit.specs.Literal.{constant, variable}
-use Rattle.circuit.specs.Stored.{empty_circuit, meant, on_lines, lent, inputs_of, latches_of, gates_of, padded, solvable}
-use Rattle.circuit.specs.declared.Circuit.{Circuit as Value}
+use Rattle.circuit.specs.Literal.{constant}
+use Rattle.circuit.specs.Stored.{empty_circuit, solvable}
 use Rattle.circuit.proofs.Laws.Solvable.{many_solved_empty, few_solved, few_are}
 use Rattle.game.specs.CircuitGame.{circuit_game}
 use Rattle.game.specs.Reply.{reply}
 use Rattle.net.specs.InOrder.{InOrder}
-use Rattle.net.specs.Made.{MadeAs, most}
 use Rattle.net.specs.Net.{net_controls, net_readings, net_latches}
-use Rattle.net.specs.NetOf.{Names, name, net_of, net_literal, operands_of, gate_start, first_names, all_names}
-use Rattle.net.specs.declared.Net.{Net}
+use Rattle.net.specs.NetOf.{net_of, net_literal, operands_of}
 use Rattle.net.proofs.Laws.InOrder.{Room, net_in_order}
 use Rattle.solver.specs.Over.{reply_over}
 use Rattle.solver.specs.RankTable.{rank_table}
@@ -71,28 +66,15 @@ pub empty_small : Small empty
 unfolding net_readings net_controls
 empty_small = record { order = subst InOrder (sym empty-is) (net_in_order empty_circuit empty_room); readings = omega arith; controls = omega arith }
 
--- 1 of a net with too many inputs of a sort, 0 of another: the empty one takes its place
-unfoldable pub excess : List ℕ → ℕ
-excess net = cond (ltb base.uncontrollable (net_readings net) || ltb base.controllable (net_controls net)) 1 0
-
-pub empty_itself : solvable_net empty ≡ empty
-unfolding solvable_net net_readings net_controls
-empty_itself = refl
-
 -- by the counts of a net
-module _ (net : List ℕ) (order : InOrder net) (u k : ℕ) (others : u ≡ get_or net 1 0) (chosen : k ≡ get_or net 0 0) where
+module _ (net : List ℕ) (order : InOrder net) (u k : ℕ) (others : u ≡ net_readings net) (chosen : k ≡ net_controls net) where
   counted : (ltb base.uncontrollable u || ltb base.controllable k) ≡
       (ltb base.uncontrollable (net_readings net) || ltb base.controllable (net_controls net))
-  unfolding net_readings net_controls
   counted = λ x. ltb base.uncontrollable (others x) || ltb base.controllable (chosen x)
 
   pub many_empty : (ltb base.uncontrollable u || ltb base.controllable k) ≡ true → empty ≡ solvable_net net
   unfolding solvable_net
   many_empty e = sym (ap (λ (b : Bool). cond b empty net) (sym counted ∙ e))
-
-  pub many_falls : (ltb base.uncontrollable u || ltb base.controllable k) ≡ true → excess empty < excess net
-  unfolding excess net_readings net_controls
-  many_falls e = omega (arith, ap {B = ℕ} (λ (b : Bool). cond b 1 0) (sym counted ∙ e))
 
   module _ (e : (ltb base.uncontrollable u || ltb base.controllable k) ≡ false) where
     pub few_itself : net ≡ solvable_net net
@@ -118,58 +100,3 @@ module _ (c : Circuit) where
       by true e = ap net_game empty-is ∙ net_game_lem empty_circuit
           ∙ ap circuit_game (many_solved_empty c (net_readings (net_of c)) (net_controls (net_of c)) counts_are_lem.0 counts_are_lem.1 e)
       by false e = net_game_lem c ∙ ap circuit_game (few_solved c (net_readings (net_of c)) (net_controls (net_of c)) counts_are_lem.0 counts_are_lem.1 e)
-
--- the front of what is made is the net
-pub made_front : (net : List ℕ) (made : Net) → MadeAs net made → length net ≤ most → take made.length made.numbers ≡ net
-unfolding padded
-made_front net made as_is few =
-    (λ x. take (as_is.length x) (as_is.numbers x)) ∙ take-take (length net) most (net ++ replicate most 0) few ∙ take-append_seam net (replicate most 0)
-
-pub made_long : (net : List ℕ) (made : Net) → MadeAs net made → length made.numbers ≡ most
-unfolding padded
-made_long net made as_is = ap length as_is.numbers
-    ∙ omega (arith, length-take most (net ++ replicate most 0), length-append net (replicate most 0), length-replicate {A = ℕ} most 0)
-
--- a value of the code stands for a circuit that fits
-pub value_room : (v : Value) → length v.input ≡ base.inputs → length v.gate ≡ base.variable → Room (meant v)
-unfolding meant on_lines lent inputs_of latches_of gates_of
-value_room v e f = record {
-  inputs = omega (arith, inputs_long, length-take v.inputs v.input);
-  latches = omega (arith, latches_long);
-  gates = omega (arith, gates_long, length-take v.gates v.gate);
-}
-  where
-    inputs_long : length (inputs_of (take v.inputs v.input) v.controllable) ≡ length (take v.inputs v.input)
-    inputs_long = length_table _ (length (take v.inputs v.input))
-
-    latches_long : length (latches_of (take v.latches v.latch) v.next) ≡ min (length (take v.latches v.latch)) base.latches
-    latches_long = length_table _ (min (length (take v.latches v.latch)) base.latches)
-
-    gates_long : length (gates_of (take v.gates v.gate) v.left v.right) ≡ length (take v.gates v.gate)
-    gates_long = length_table _ (length (take v.gates v.gate))
-
-operands_long : (gs : List Gate) (v : ℕ) (names : Names) → length (operands_of gs v names) ≡ 2 * length gs
-unfolding operands_of
-operands_long [] v names = refl
-operands_long (g ∷ gs) v names = omega (arith, operands_long gs (suc v) (name (variable g.own) v names))
-
-pub net_few : (c : Circuit) → Room c → length (net_of c) ≤ most
-unfolding net_of
-net_few c room =
-    omega (
-      arith,
-      room.latches,
-      room.gates,
-      length-append nexts operands,
-      length-map c.latches literal,
-      operands_long c.gates (gate_start c) (first_names c),
-    )
-  where
-    literal : Latch → ℕ
-    literal l = net_literal (all_names c) l.next
-
-    nexts : List ℕ
-    nexts = map literal c.latches
-
-    operands : List ℕ
-    operands = operands_of c.gates (gate_start c) (first_names c)

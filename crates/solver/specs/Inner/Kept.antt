@@ -1,24 +1,26 @@
--- What is kept of each place (01, "The game"), two numbers: one more than the least control that didn't fail yet, 0 before the first look; and
--- the state that this control leads to. Assumes nothing.
-use Rattle.std.specs.Prelude.{ℕ, ◌+◌, ◌*◌, ◌-◌, ◌^◌, ◌<◌, ◌≤◌, Bool, false, List, ◌≡◌, length, get_or}
-use Rattle.game.specs.Rank.{not_ranked}
+-- What is kept of each place (01, "The game"): the least control that didn't fail yet, and the state that it leads to. Assumes nothing.
+use Rattle.std.specs.Prelude.{ℕ, ◌+◌, ◌-◌, ◌^◌, ◌<◌, ◌≤◌, Bool, false, List, ◌≡◌, length, get_or}
+use Rattle.keeping.specs.KeptControls.{nothing}
+use Rattle.keeping.specs.declared.rank_list.KeptControl.{KeptControl}
 use Rattle.net.specs.Net.{net_controls}
 use Rattle.solver.specs.Inner.Moves.{Small, place_keeps, places}
 use Rattle.solver.specs.Inner.Planes.{AllHeld}
+use Rattle.solver.specs.declared.planes.Slot.{Slot}
 
--- no control before that one keeps out of the states of rank 1 to k, and that one keeps in a set exactly if its state is in it
-pub record KeptAt (net : List ℕ) (ranks : ℕ → ℕ) (k place found lead : ℕ) : Type 0 where
-  pub few : found ≤ 2 ^ net_controls net
-  pub failed : (j : ℕ) → j + 1 < found → place_keeps net (not_ranked ranks k) place j ≡ false
-  pub leads : 0 < found → (set : ℕ → Bool) → place_keeps net set place (found - 1) ≡ set lead
+-- no control before that one keeps in the set, and that one keeps in any set exactly if its state is in it
+pub record KeptAt (net : List ℕ) (set : ℕ → Bool) (place : ℕ) (control : KeptControl) : Type 0 where
+  pub few : control.found ≤ 2 ^ net_controls net
+  pub failed : (j : ℕ) → j + 1 < control.found → place_keeps net set place j ≡ false
+  pub leads : 0 < control.found → (these : ℕ → Bool) → place_keeps net these place (control.found - 1) ≡ these control.lead
 
 -- all that is kept, of each place and of each slot of planes
-pub record Kept (net : List ℕ) (ranks : ℕ → ℕ) (k : ℕ) (kept planes : List ℕ) : Type 0 where
+pub record Kept (net : List ℕ) (set : ℕ → Bool) (kept : List KeptControl) (slots : List Slot) : Type 0 where
   pub small : Small net
-  pub long : 2 * places net ≤ length kept
-  pub held : AllHeld net planes
-  pub at : (p : ℕ) → p < places net → KeptAt net ranks k p (get_or kept (2 * p) 0) (get_or kept (2 * p + 1) 0)
+  pub long : places net ≤ length kept
+  pub some : 0 < length slots
+  pub held : AllHeld net slots
+  pub at : (p : ℕ) → p < places net → KeptAt net set p (get_or kept p nothing)
 
 -- the control kept at a place doesn't keep any more either
-abbrev pub Behind : (net : List ℕ) (ranks : ℕ → ℕ) (k place : ℕ) (kept : List ℕ) → Type 0
-Behind net ranks k place kept = (j : ℕ) → j < get_or kept (2 * place) 0 → place_keeps net (not_ranked ranks k) place j ≡ false
+abbrev pub Behind : (net : List ℕ) (set : ℕ → Bool) (place : ℕ) (kept : List KeptControl) → Type 0
+Behind net set place kept = (j : ℕ) → j < (get_or kept place nothing).found → place_keeps net set place j ≡ false

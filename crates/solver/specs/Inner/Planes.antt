@@ -1,47 +1,38 @@
--- The planes of a block, twelve words: one for each latch that a circuit may have, one for the error, and one more than the block's number,
--- 0 where none is held. A list has those of one slot after those of another. Assumes nothing.
-use Rattle.std.specs.Prelude.{ℕ, ◌+◌, ◌*◌, ◌-◌, ◌%◌, ◌<◌, ◌≤◌, Bool, cond, not, ◌&&◌, List, ◌≡◌, ltb, eqb, length, get_or, take, drop}
+-- The planes of a block, in a slot: a word for each latch that a circuit may have, one for the error, and one more than the block's number,
+-- 0 where none is held. Assumes nothing.
+use Rattle.std.specs.Prelude.{ℕ, ◌+◌, ◌-◌, ◌%◌, ◌<◌, Bool, not, ◌&&◌, List, [], ◌≡◌, length, get_or}
 use Rattle.below.specs.Table.{table}
 use Rattle.blocks.specs.Evaluated.{literals}
 use Rattle.blocks.specs.Lane.{width, lane, move_in}
 use Rattle.circuit.specs.Limits.{base}
-use Rattle.keeping.specs.Inner.InLane.{number_of, keeps_in}
+use Rattle.keeping.specs.Inner.InLane.{number_of}
 use Rattle.net.specs.Net.{net_latches, net_output}
 use Rattle.solver.specs.Inner.Moves.{move_keeps}
+use Rattle.solver.specs.declared.planes.Slot.{Slot}
 
--- how many words a slot has
-abbrev pub slot : ℕ
-slot = 12
+-- the planes of a block that was evaluated into words, one for each literal
+unfoldable pub planes_of : (net words : List ℕ) (mark : ℕ) → Slot
+planes_of net words mark =
+    record {
+      next = table (λ k. get_or words (get_or net (4 + k) 0 % literals) 0) base.latches;
+      error = get_or words (net_output net % literals) 0;
+      mark = mark;
+    }
 
--- word i of a slot whose block was evaluated into words, one for each literal
-unfoldable pub plane_word : (net words : List ℕ) (mark i : ℕ) → ℕ
-plane_word net words mark i =
-    cond (ltb i base.latches)
-    (get_or words (get_or net (4 + i) 0 % literals) 0)
-    (cond (eqb i base.latches) (get_or words (net_output net % literals) 0) mark)
-
--- the list with other words from a number on
-unfoldable pub put_slot : (at : ℕ) → (ℕ → ℕ) → List ℕ → List ℕ
-put_slot at f l =
-    table
-    (λ x. cond (ltb x (at + slot)) (cond (ltb x at) (get_or l x 0) (f (x - at))) (get_or l x 0))
-    (length l)
-
--- the words of slot i
-unfoldable pub slot_at : List ℕ → (i : ℕ) → ℕ → ℕ
-slot_at planes i = λ j. get_or planes (i * slot + j) 0
+-- a slot, or an empty one where there is none
+abbrev pub slot_at : List Slot → (i : ℕ) → Slot
+slot_at slots i = get_or slots i (record { next = []; error = 0; mark = 0 })
 
 -- what a slot says of each lane is what the move there does
-pub record HeldAt (net : List ℕ) (word : ℕ → ℕ) : Type 0 where
-  pub says : 0 < word 11 → (j : ℕ) → j < width → (set : ℕ → Bool)
-      → (not (lane (word 10) j) && set (number_of word (net_latches net) j)) ≡ move_keeps net set (move_in (word 11 - 1) j)
+pub record HeldAt (net : List ℕ) (slot : Slot) : Type 0 where
+  pub long : length slot.next ≡ base.latches
+  pub says : 0 < slot.mark → (j : ℕ) → j < width → (set : ℕ → Bool)
+      → (not (lane slot.error j) && set (number_of (λ k. get_or slot.next k 0) (net_latches net) j)) ≡ move_keeps net set (move_in (slot.mark - 1) j)
 
-pub record AllHeld (net planes : List ℕ) : Type 0 where
-  pub some : slot ≤ length planes
-  pub at : (i : ℕ) → i * slot + slot ≤ length planes → HeldAt net (slot_at planes i)
+pub record AllHeld (net : List ℕ) (slots : List Slot) : Type 0 where
+  pub at : (i : ℕ) → i < length slots → HeldAt net (slot_at slots i)
 
--- the slot that begins at a number holds a block
-pub record Holds (net planes : List ℕ) (at block : ℕ) : Type 0 where
-  pub within : at + slot ≤ length planes
-  pub says : (j : ℕ) → j < width → (set : ℕ → Bool)
-      → keeps_in set (get_or planes (at + 10) 0) (take (net_latches net) (drop at planes)) j ≡ move_keeps net set (move_in block j)
+-- a slot that is marked with a block
+pub record Holds (slots : List Slot) (i block : ℕ) : Type 0 where
+  pub within : i < length slots
+  pub marked : (slot_at slots i).mark ≡ block + 1

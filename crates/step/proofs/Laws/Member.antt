@@ -1,26 +1,19 @@
 -- What holds of the members of lists one behind the other, and of the numbers that name the elements of a list. Assumes nothing.
 use Prim.Native.Nat.{ℕ}
-use mathlib.Core.Bool.{Bool, true, false, ◌||◌, true≢false}
+use mathlib.Core.Bool.{true, false, ◌||◌, true≢false}
 use mathlib.Core.List.{List, [], ◌∷◌, ◌++◌, map}
 use mathlib.Core.Logic.{◌⊎◌, inl, inr}
 use mathlib.Core.Path.{◌≡◌, refl, sym, ap, ◌∙◌}
 use lib.Dec.{eqb}
 use borrow.Author.Tests.{eqb-true, eq-eqb}
+use Rattle.std.proofs.lemmas.Bool.{or_right, or_cases}
 use Rattle.below.specs.Among.{among, member}
 use Rattle.below.proofs.Laws.Among.{member_snoc}
-
-either : (a b : Bool) → (a || b) ≡ true → (a ≡ true) ⊎ (b ≡ true)
-either true b e = inl refl
-either false b e = inr e
-
-or_right : (a b : Bool) → b ≡ true → (a || b) ≡ true
-or_right true b e = refl
-or_right false b e = e
 
 pub member_left : (v : ℕ) (vs ws : List ℕ) → member v vs ≡ true → member v (vs ++ ws) ≡ true
 unfolding member among
 member_left v [] ws e = absurd (true≢false (sym e))
-member_left v (u ∷ vs) ws e = by (either (eqb v u) (member v vs) e) (member_left v vs ws)
+member_left v (u ∷ vs) ws e = by (or_cases (eqb v u) (member v vs) e) (member_left v vs ws)
   where
     by : (eqb v u ≡ true) ⊎ (member v vs ≡ true) → (member v vs ≡ true → member v (vs ++ ws) ≡ true) → (eqb v u || member v (vs ++ ws)) ≡ true
     by (inl a) ih = rw a
@@ -34,7 +27,7 @@ member_right v (u ∷ vs) ws e = or_right (eqb v u) (member v (vs ++ ws)) (membe
 pub member_cases : (v : ℕ) (vs ws : List ℕ) → member v (vs ++ ws) ≡ true → (member v vs ≡ true) ⊎ (member v ws ≡ true)
 unfolding member among
 member_cases v [] ws e = inr e
-member_cases v (u ∷ vs) ws e = by (either (eqb v u) (member v (vs ++ ws)) e) (member_cases v vs ws)
+member_cases v (u ∷ vs) ws e = by (or_cases (eqb v u) (member v (vs ++ ws)) e) (member_cases v vs ws)
   where
     later : (member v vs ≡ true) ⊎ (member v ws ≡ true) → ((eqb v u || member v vs) ≡ true) ⊎ (member v ws ≡ true)
     later (inl m) = inl (or_right (eqb v u) (member v vs) m)
@@ -51,7 +44,7 @@ member_last v vs = member_snoc v vs v ∙ or_right (member v vs) (eqb v v) (eq-e
 
 pub member_one : (u v : ℕ) → member u (v ∷ []) ≡ true → u ≡ v
 unfolding member among
-member_one u v e = by (either (eqb u v) false e)
+member_one u v e = by (or_cases (eqb u v) false e)
   where
     by : (eqb u v ≡ true) ⊎ (false ≡ true) → u ≡ v
     by (inl a) = eqb-true u v a
@@ -69,7 +62,7 @@ module _ {A : Type 0} (name : A → ℕ) where
   pub member-named : (xs : List A) (v : ℕ) → member v (map name xs) ≡ true → Named name xs v
   unfolding member among
   member-named [] v e = absurd (true≢false (sym e))
-  member-named (x ∷ xs) v e = by (either (eqb v (name x)) (member v (map name xs)) e) (member-named xs v)
+  member-named (x ∷ xs) v e = by (or_cases (eqb v (name x)) (member v (map name xs)) e) (member-named xs v)
     where
       behind : Named name xs v → Named name (x ∷ xs) v
       behind n = record { above = x ∷ n.above; below = n.below; it = n.it; stands = ap (λ (l : List A). x ∷ l) n.stands; is = n.is }

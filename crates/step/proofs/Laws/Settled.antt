@@ -1,13 +1,11 @@
 -- The valuation of a step is settled, of a circuit in order: each latch, input and gate has its value when its line is put, and no later line
 -- changes it. Assumes nothing.
-use Prim.Native.Nat.{ℕ, zero, suc, ◌/◌, ◌%◌, ◌<◌}
-use native.Mathlib.Omega.{arith}
+use Prim.Native.Nat.{ℕ, suc, ◌/◌}
 use mathlib.Core.Bool.{Bool, true, false, cond, not, ◌&&◌}
 use mathlib.Core.List.Memᴰ
 use mathlib.Core.List.{List, [], ◌∷◌, ◌++◌, map, Memᴰ}
 use mathlib.Core.Logic.{◌⊎◌, inl, inr}
-use mathlib.Core.Path.{◌≡◌, refl, sym, ap, ap₂, ◌∙◌, subst}
-use lib.Dec.{eqb}
+use mathlib.Core.Path.{◌≡◌, sym, ap, ap₂, ◌∙◌, subst}
 use lib.ListN.{length}
 use Rattle.below.specs.Among.{member}
 use Rattle.bits.specs.Bit.{bit, odd, one_if}
@@ -18,20 +16,12 @@ use Rattle.step.specs.Settled.{Settled}
 use Rattle.step.specs.Value.{Valuation, literal_value, put, with_inputs, with_latches, with_gates, valuation}
 use Rattle.step.proofs.Laws.Agree.{Agree, literals-agree, put_at_lem, put_agrees, inputs_agree, latches_agree, gates_agree}
 use Rattle.step.proofs.Laws.InOrder.{Once, Operands, InOrder, once_append}
+use Rattle.step.proofs.Laws.Truths.{one_if-odd}
 use Rattle.step.proofs.Laws.Member.{member_left, member_right, member_last, named-member}
-
-lowest_bit : (n : ℕ) → one_if (odd n) ≡ bit n 0
-unfolding odd one_if
-lowest_bit n = by (n % 2) (omega arith) ∙ sym (bit_zero n)
-  where
-    by : (m : ℕ) → m < 2 → cond (eqb m 1) 1 0 ≡ m
-    by zero h = refl
-    by (suc zero) h = refl
-    by (suc (suc m)) h = omega arith
 
 -- a variable that got the lowest bit of a number and is among those seen keeps it
 kept-bit : (seen : List ℕ) (v n : ℕ) (val end : Valuation) → Agree (seen ++ (v ∷ [])) end (put v (odd n) val) → one_if (end v) ≡ bit n 0
-kept-bit seen v n val end w = ap one_if (w v (member_last v seen) ∙ put_at_lem v (odd n) val) ∙ lowest_bit n
+kept-bit seen v n val end w = ap one_if (w v (member_last v seen) ∙ put_at_lem v (odd n) val) ∙ one_if-odd n ∙ sym (bit_zero n)
 
 -- a latch, when all latches are put
 latch_has :

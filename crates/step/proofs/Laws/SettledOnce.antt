@@ -3,8 +3,10 @@ use Prim.Native.Nat.{ℕ, ◌+◌, ◌*◌}
 use mathlib.Core.Bool.{Bool, true, false, ◌&&◌}
 use mathlib.Core.List.{List, [], ◌∷◌, ◌++◌, map, append-nil, append_assoc, Memᴰ}
 use mathlib.Core.Path.{◌≡◌, refl, sym, ap, ap₂, ◌∙◌, subst}
+use lib.Dec.{eqb}
 use Rattle.bits.specs.Bit.{one_if}
 use Rattle.bits.specs.Digits.{sum}
+use Rattle.bits.proofs.Laws.Bit.{is_one}
 use Rattle.circuit.specs.Circuit.{Circuit, Latch, Gate}
 use Rattle.step.specs.Defined.{input_variable, latch_variable, gate_variable, of_inputs_and_latches, defined_by}
 use Rattle.step.specs.NextIn.{next_in}
@@ -17,11 +19,7 @@ use Rattle.step.proofs.Laws.Member.{Named, member_one, member-named}
 use Rattle.step.proofs.Laws.Settled.{valuation_settled}
 
 same_truth : (a b : Bool) → one_if a ≡ one_if b → a ≡ b
-unfolding one_if
-same_truth true true e = refl
-same_truth true false e = cc
-same_truth false true e = cc
-same_truth false false e = refl
+same_truth a b e = sym (is_one a) ∙ ap (λ (n : ℕ). eqb n 1) e ∙ is_one b
 
 module _ (c : Circuit) (s r k : ℕ) (a b : Valuation) (x : Settled c s r k a) (y : Settled c s r k b) where
   inputs_same : Agree (map input_variable c.inputs) a b

@@ -1,5 +1,5 @@
--- What holds of a step: the next state is a state; the largest variable, the lines of gates and bits above a count aren't read; what a valuation
--- of lent lists says. Assumes nothing.
+-- What holds of a step: the next state is a state; the largest variable, the lines of gates and bits above a count aren't read; what is read of
+-- a valuation that is put part by part. Assumes nothing.
 use Prim.Native.Nat.{ℕ, suc, ◌/◌, ◌%◌, ◌^◌, ◌<◌}
 use mathlib.Core.Bool.{Bool, true, false, cond, not}
 use mathlib.Core.List.{List, [], ◌∷◌, map}
@@ -12,7 +12,8 @@ use Rattle.bits.proofs.Laws.Digits.{sum_below}
 use Rattle.bits.proofs.Laws.Halves.{half_mod, odd_mod}
 use Rattle.circuit.specs.Circuit.{Circuit, Input, Latch, inputs_that, latch_count, uncontrollable_count, controllable_count}
 use Rattle.circuit.specs.Literal.{variable}
-use Rattle.circuit.specs.Stored.{lent, on_lines, literal_of, inputs_of, latches_of, gates_of}
+use Rattle.circuit.specs.Stored.{literal_of, lent, on_lines, meant_lent}
+use Rattle.circuit.specs.declared.lent.Lent.{Lent}
 use Rattle.step.specs.declared.Stepped.{Stepped}
 use Rattle.step.specs.NextIn.{next_in}
 use Rattle.step.specs.Step.{step, error_of, next_of}
@@ -28,38 +29,26 @@ next_below c s r k =
     let below = truths_below (λ l. literal_value (valuation c s r k) l.next) c.latches in
     subst (λ (n : ℕ). next_of c s r k < 2 ^ n) (length-map c.latches _) (sum_below 2 _ below)
 
--- which lines its gates stand on isn't read
+-- neither the largest variable nor the lines that its gates stand on are read
+pub largest_not_read : (largest : ℕ) (c : Circuit) (s r k : ℕ) → step (record c { largest = largest }) s r k ≡ step c s r k
+unfolding step error_of next_of valuation
+largest_not_read largest c s r k = refl
+
 pub lines-not_read : (lines : List ℕ) (c : Circuit) (s r k : ℕ) → step (on_lines lines c) s r k ≡ step c s r k
 unfolding step error_of next_of valuation on_lines
 lines-not_read lines c s r k = refl
 
-module _ (input controllable latch next : List ℕ) (output : ℕ) (gate left right : List ℕ) where
-  pub largest_not_read : (m n s r k : ℕ)
-      → step (lent m input controllable latch next output gate left right) s r k ≡ step (lent n input controllable latch next output gate left right) s r k
-  unfolding step error_of next_of valuation lent
-  largest_not_read m n s r k = refl
-
-  -- inputs, then latches, then gates, put over nothing
-  pub values_put : (s r k : ℕ) (none inputs latches gates : Valuation) → none ≡ (λ v. false)
-      → inputs ≡ with_inputs (inputs_of input controllable) r k none
-      → latches ≡ with_latches (latches_of latch next) s inputs
-      → gates ≡ with_gates (gates_of gate left right) latches
-      → gates ≡ valuation (lent 0 input controllable latch next output gate left right) s r k
-  unfolding valuation lent
-  values_put s r k none inputs latches gates a b c d =
-      d ∙ ap (with_gates (gates_of gate left right)) (c ∙ ap (with_latches (latches_of latch next) s)
-      (b ∙ ap (with_inputs (inputs_of input controllable) r k) a))
-
-  pub step_is : (s r k : ℕ) (val : Valuation) (error : Bool) (after : ℕ)
-      → val ≡ valuation (lent 0 input controllable latch next output gate left right) s r k
-      → error ≡ literal_value val (literal_of output)
-      → after ≡ next_in val (latches_of latch next)
-      → ◌≡◌ {A = Stepped} (record { error = error; next = after }) (step (lent 0 input controllable latch next output gate left right) s r k)
-  unfolding step error_of next_of next_in lent
-  step_is s r k val error after v e n =
-      let errors = e ∙ ap (λ (w : Valuation). literal_value w (literal_of output)) v in
-      let nexts = n ∙ ap (λ (w : Valuation). next_in w (latches_of latch next)) v in
-      λ x. record { error = errors x; next = nexts x }
+-- inputs, then latches, then gates of a lent circuit, put over nothing: error and next state are what is then read
+pub step_is : (c : Lent) (s r k : ℕ) (none inputs latches gates : Valuation) (error : Bool) (after : ℕ)
+    → none ≡ (λ v. false)
+    → inputs ≡ with_inputs (meant_lent c).inputs r k none
+    → latches ≡ with_latches (meant_lent c).latches s inputs
+    → gates ≡ with_gates (meant_lent c).gates latches
+    → error ≡ literal_value gates (literal_of c.output)
+    → after ≡ next_in gates (meant_lent c).latches
+    → ◌≡◌ {A = Stepped} (record { error = error; next = after }) (step (meant_lent c) s r k)
+unfolding step error_of next_of next_in valuation meant_lent on_lines lent
+step_is c s r k none inputs latches gates error after a b d e f n = rw (f, n, e, d, b, a)
 
 chosen : Input → Bool
 chosen i = i.controllable

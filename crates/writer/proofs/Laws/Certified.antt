@@ -1,36 +1,15 @@
--- What a writer of certificates may answer: the verdict and the count of the bytes that stand at the front, or 10 at 0 with the buffer as
--- it was. Assumes nothing.
-use Prim.Native.Nat.{ℕ, ◌<◌, ◌≤◌}
-use native.Mathlib.Omega.{arith}
-use mathlib.Core.Bool.{true, false}
-use mathlib.Core.List.{List}
-use mathlib.Core.Path.{◌≡◌, ap, ◌∙◌, subst}
-use lib.ListN.{length}
-use Rattle.bits.specs.Wrote.{Wrote}
-use Rattle.bits.proofs.Laws.Wrote.{sets_front, wrote_both}
-use Rattle.circuit.specs.Answer.{buffer_after, no_room}
-use Rattle.circuit.specs.Circuit.{Circuit, latch_count, uncontrollable_count, controllable_count}
-use Rattle.circuit.specs.Outcome.{Outcome, taken}
-use Rattle.circuit.proofs.Laws.Answer.{fitted_taken, fitted_refused}
-use Rattle.game.specs.Attack.{attack}
-use Rattle.game.specs.CircuitGame.{circuit_game, is_realizable}
-use Rattle.game.specs.Rank.{rank, in_region}
-use Rattle.game.specs.Reply.{reply}
-use Rattle.put.specs.Head.{head_of}
-use Rattle.records.specs.AttackTable.{attack_bytes}
-use Rattle.records.specs.Record.{record_of, circuit_kind, region_kind, attack_kind}
-use Rattle.records.specs.RegionBits.{region_bytes}
-use Rattle.records.specs.ReplyTable.{table_bytes}
-use Rattle.writer.specs.declared.Certified.TheVariants.{Realizable, Unrealizable, Refused}
-use Rattle.writer.specs.Answer.{Verdict, certified_outcome, certificate_for, verdict_for, CertifiedAs}
+-- What a writer of certificates answers where the bytes of the certificate were written or refused: the verdict with their count, or the
+-- refusal. Assumes nothing.
+use Rattle.std.proofs.Common.{ℕ, true, false, List, ◌≡◌, ◌∙◌, sym, ap, refl, length}
+use Rattle.std.specs.Prelude.{Result, Ok, Err}
+use Rattle.circuit.specs.Answer.{outcome_of, fitted, count_of, buffer_after, WrittenAs}
+use Rattle.circuit.specs.Circuit.{Circuit}
+use Rattle.circuit.specs.Outcome.{Outcome, taken, refused, ◌>>=◌}
+use Rattle.circuit.specs.declared.numbers.Refusal.{Refusal}
+use Rattle.game.specs.CircuitGame.{is_realizable}
+use Rattle.writer.specs.declared.Certified.{Certified}
+use Rattle.writer.specs.Answer.{Verdict, verdict_of, certified_outcome, certificate_for, verdict_for, CertifiedAs}
 use Rattle.writer.specs.Certificate.{reply_certificate, attack_certificate, certificate_of}
-
--- a head and the contents behind it
-pub wrote_record :
-    (kind n : ℕ) {at mid next : ℕ} {contents before between after : List ℕ} → Wrote (head_of kind n) at before between mid → n ≡ length contents
-    → Wrote contents mid between after next → Wrote (record_of kind contents) at before after next
-unfolding record_of
-wrote_record kind n {at} {mid} {before = before} {between} h e w = wrote_both (subst (λ (k : ℕ). Wrote (head_of kind k) at before between mid) e h) w
 
 pub replies_of : (kind : ℕ) (file : List ℕ) (c : Circuit) → is_realizable c ≡ true → certificate_of kind file c ≡ reply_certificate kind file c
 unfolding certificate_of
@@ -40,61 +19,38 @@ pub attacks_of : (kind : ℕ) (file : List ℕ) (c : Circuit) → is_realizable 
 unfolding certificate_of
 attacks_of kind file c e = rw e
 
-module _ (kind : ℕ) (file : List ℕ) (c : Circuit) {before after : List ℕ} where
-  -- the three records, and the two
-  pub wrote_replies :
-      {m n o : ℕ} {first second : List ℕ} → Wrote (record_of circuit_kind file) 0 before first m
-      → Wrote (record_of region_kind (region_bytes (in_region (circuit_game c)) (latch_count c))) m first second n
-      → Wrote (record_of kind (table_bytes kind (reply (circuit_game c)) (latch_count c) (uncontrollable_count c) (controllable_count c))) n second after o
-      → Wrote (reply_certificate kind file c) 0 before after o
-  unfolding reply_certificate
-  wrote_replies v w x = wrote_both (wrote_both v w) x
+module _ (kind : ℕ) (file : List ℕ) (c : Circuit) where
+  -- what is told of the count of the bytes
+  abbrev told : Outcome ℕ → Outcome Verdict
+  told o = o >>= λ n. taken (record { realizable = is_realizable c; count = n })
 
-  pub wrote_attacks :
-      {m n : ℕ} {first : List ℕ} → Wrote (record_of circuit_kind file) 0 before first m
-      → Wrote (record_of attack_kind (attack_bytes (rank (circuit_game c)) (attack (circuit_game c)) (latch_count c))) m first after n
-      → Wrote (attack_certificate file c) 0 before after n
-  unfolding attack_certificate
-  wrote_attacks v w = wrote_both v w
+  abbrev of_bytes : Outcome (List ℕ) → Outcome Verdict
+  of_bytes o = o >>= λ bytes. taken (record { realizable = is_realizable c; count = length bytes })
 
-  stands : (bytes : List ℕ) (n : ℕ) → length bytes ≤ length before → Wrote bytes 0 before after n → after ≡ buffer_after (taken bytes) before
-  unfolding buffer_after
-  stands bytes n h w = w.stand (omega arith) ∙ sets_front before bytes h
+  told_count : (o : Outcome (List ℕ)) → told (count_of o) ≡ of_bytes o
+  unfolding count_of
+  told_count (taken bytes) = refl
+  told_count (refused number place) = refl
 
-  counts : (bytes : List ℕ) (n : ℕ) → Wrote bytes 0 before after n → n ≡ length bytes
-  counts bytes n w = omega (arith, w.answer)
-
-  pub certified_replies :
-      (n : ℕ) → is_realizable c ≡ true → length (reply_certificate kind file c) ≤ length before → Wrote (reply_certificate kind file c) 0 before after n
-      → CertifiedAs kind file (taken c) before after (Realizable n)
-  unfolding certified_outcome certificate_for verdict_for
-  certified_replies n e h w =
+  certified_written :
+      (bytes before after : List ℕ) (r : Result ℕ Refusal) (a : Result Certified Refusal) → certificate_of kind file c ≡ bytes
+      → WrittenAs (fitted bytes (length before)) before after r → certified_outcome a ≡ told (outcome_of r) → CertifiedAs kind file (taken c) before after a
+  unfolding certificate_for verdict_for
+  certified_written bytes before after r a is w e =
       record {
-        answer =
-            rw (replies_of kind file c e, fitted_taken (reply_certificate kind file c) (length before) h, e)
-            (ap {B = Outcome Verdict} (λ (k : ℕ). taken (record { realizable = true; count = k })) (counts (reply_certificate kind file c) n w));
-        bytes = rw (replies_of kind file c e, fitted_taken (reply_certificate kind file c) (length before) h) (stands (reply_certificate kind file c) n h w);
+        answer = e ∙ ap told w.answer ∙ told_count (fitted bytes (length before)) ∙ ap of_bytes (ap (λ (l : List ℕ). fitted l (length before)) (sym is));
+        bytes = w.bytes ∙ ap (λ (l : List ℕ). buffer_after (fitted l (length before)) before) (sym is);
       }
 
-  pub certified_attacks :
-      (n : ℕ) → is_realizable c ≡ false → length (attack_certificate file c) ≤ length before → Wrote (attack_certificate file c) 0 before after n
-      → CertifiedAs kind file (taken c) before after (Unrealizable n)
-  unfolding certified_outcome certificate_for verdict_for
-  certified_attacks n e h w =
-      record {
-        answer =
-            rw (attacks_of kind file c e, fitted_taken (attack_certificate file c) (length before) h, e)
-            (ap {B = Outcome Verdict} (λ (k : ℕ). taken (record { realizable = false; count = k })) (counts (attack_certificate file c) n w));
-        bytes = rw (attacks_of kind file c e, fitted_taken (attack_certificate file c) (length before) h) (stands (attack_certificate file c) n h w);
-      }
+  pub certified_ok :
+      (bytes before after : List ℕ) (n : ℕ) (v : Certified) → certificate_of kind file c ≡ bytes
+      → verdict_of v ≡ record { realizable = is_realizable c; count = n }
+      → WrittenAs (fitted bytes (length before)) before after (Ok n) → CertifiedAs kind file (taken c) before after (Ok v)
+  unfolding certified_outcome outcome_of
+  certified_ok bytes before after n v is e w = certified_written bytes before after (Ok n) (Ok v) is w (ap {B = Outcome Verdict} taken e)
 
--- the buffer is too short
-pub certified_refused :
-    (kind : ℕ) (file : List ℕ) (c : Circuit) (buffer : List ℕ) → length buffer < length (certificate_of kind file c)
-    → CertifiedAs kind file (taken c) buffer buffer (Refused (record { number = no_room; place = 0 }))
-unfolding certified_outcome certificate_for verdict_for buffer_after
-certified_refused kind file c buffer h =
-    record {
-      answer = rw (fitted_refused (certificate_of kind file c) (length buffer) h);
-      bytes = rw (fitted_refused (certificate_of kind file c) (length buffer) h);
-    }
+  pub certified_err :
+      (bytes before after : List ℕ) (x : Refusal) → certificate_of kind file c ≡ bytes → WrittenAs (fitted bytes (length before)) before after (Err x)
+      → CertifiedAs kind file (taken c) before after (Err x)
+  unfolding certified_outcome outcome_of
+  certified_err bytes before after x is w = certified_written bytes before after (Err x) (Err x) is w refl

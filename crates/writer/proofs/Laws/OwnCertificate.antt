@@ -9,6 +9,7 @@ use mathlib.Core.Path.{◌≡◌, refl, sym, ap, ◌∙◌, subst}
 use lib.Dec.{ltb}
 use lib.ListN.{length, take, drop}
 use lib.Seq.{get_or-take}
+use Rattle.std.specs.Prelude.{Result}
 use Rattle.bits.specs.Bit.{bit, one_if}
 use Rattle.bits.specs.ByteBit.{byte_bit}
 use Rattle.circuit.specs.Answer.{fitted, buffer_after}
@@ -38,6 +39,7 @@ use Rattle.checker.specs.Check.{check_of}
 use Rattle.checker.specs.StoredFor.{reply_at}
 use Rattle.checker.proofs.Laws.ReadPassed.{RepliesTook, replies_took, bits_are, replies_are_lem, AttacksTook, attacks_took, ranks_are_lem, attacks_are_lem}
 use Rattle.checker.proofs.Laws.ReadPassed.{took_answers}
+use Rattle.circuit.specs.declared.numbers.Refusal.{Refusal}
 use Rattle.writer.specs.declared.Certified.{Certified}
 use Rattle.writer.specs.Answer.{Verdict, certified_outcome, certificate_for, verdict_for, CertifiedAs}
 use Rattle.writer.specs.Certificate.{certificate_of}
@@ -51,7 +53,7 @@ told c o = o >>= λ bytes. taken (record { realizable = is_realizable c; count =
 
 -- a refusal writes nothing
 pub refused_certifies_nothing :
-    (kind : ℕ) (file : List ℕ) (circuit : Outcome Circuit) (before after : List ℕ) (r : Certified) (number place : ℕ)
+    (kind : ℕ) (file : List ℕ) (circuit : Outcome Circuit) (before after : List ℕ) (r : Result Certified Refusal) (number place : ℕ)
     → CertifiedAs kind file circuit before after r
     → certified_outcome r ≡ refused number place → after ≡ before
 unfolding certificate_for verdict_for buffer_after
@@ -79,7 +81,7 @@ verdict_refused_exactly kind file room number place =
     by (refused n p) = (λ e. moved n p number place e, λ e. moved n p number place e)
 
 pub certify_refused_exactly :
-    (kind : ℕ) (file before after : List ℕ) (r : Certified) (number place : ℕ) → CertifiedAs kind file (circuit_in file) before after r
+    (kind : ℕ) (file before after : List ℕ) (r : Result Certified Refusal) (number place : ℕ) → CertifiedAs kind file (circuit_in file) before after r
     → (certified_outcome r ≡ refused number place) ↔ WriterRow file (certificate_of kind file) (length before) number place
 certify_refused_exactly kind file before after r number place w =
     let row = verdict_refused_exactly kind file (length before) number place in (λ e. row.0 (sym w.answer ∙ e), λ t. w.answer ∙ row.1 t)
@@ -116,7 +118,7 @@ told_passes kind accepted file c before after v reads told written =
 
 -- given the room it is told
 pub room_certifies :
-    (kind : ℕ) → Accepted kind → (file : List ℕ) (c : Circuit) (before after : List ℕ) (r : Certified) → circuit_in file ≡ taken c
+    (kind : ℕ) → Accepted kind → (file : List ℕ) (c : Circuit) (before after : List ℕ) (r : Result Certified Refusal) → circuit_in file ≡ taken c
     → CertifiedAs kind file (circuit_in file) before after r → length (certificate_of kind file c) ≤ length before
     → (v : Verdict) × (certified_outcome r ≡ taken v) × Passing kind file c after v
 unfolding verdict_for

@@ -1,10 +1,12 @@
--- What `blocks::gates::put_gates` keeps from turn to turn: in each lane, what is left to put over what the words hold gives the whole; each turn puts one gate.
-use Prim.Native.Nat.{◌-◌}
-use Rattle.blocks.proofs.Laws.Putting.{Run}
+-- What `put_gates` keeps from turn to turn: in each lane, what is left to put, over what the words hold, gives the whole.
+use Rattle.std.proofs.Common.{◌≡◌, ℕ, ◌+◌, ◌*◌, ◌<◌, drop}
+use Rattle.blocks.specs.Evaluated.{put_gates}
+use Rattle.blocks.specs.Lane.{width, lits_in}
+use Rattle.blocks.proofs.Laws.Putting.{read}
 use Rattle.blocks.proofs.gates.put_gates.Given as goal
 
 abbrev pub invariant-loop-i : goal.invariant-loop-i
-invariant-loop-i l = Run l.net l.at l.first l.k l.i l.initial.words l.words
-
-abbrev pub decreases-loop-i : goal.decreases-loop-i
-decreases-loop-i l = l.n - l.i
+invariant-loop-i l =
+    (j : ℕ) → j < width
+    → put_gates (read l.operands l.first) l.first (lits_in l.initial.words j)
+    ≡ put_gates (drop (2 * l.i) (read l.operands l.first)) (l.first + l.i) (lits_in l.words j)

@@ -1,23 +1,25 @@
--- `fields::line::line_end` meets its contract: what is left of the line, from each place on the way, ends where the line does.
--- Assumes nothing.
-use native.Mathlib.Numerals.{add-one}
-use native.Mathlib.Omega.{arith}
-use Rattle.fields.proofs.Laws.Position.{line_stops, line_goes_on, line_empty}
+-- `fields::line::line_end` meets its contract: behind byte 10, or where the text ends. Assumes nothing.
+use borrow.Author.Rules.{rules}
+use borrow.Author.Tests.{tests}
+use Prim.Native.Nat.{ℕ, ◌+◌}
+use mathlib.Core.List.{List}
+use mathlib.Core.Path.{sym, ap, ◌∙◌}
+use lib.Dec.{eqb}
+use lib.ListN.{length}
+use Rattle.std.proofs.lemmas.Iterator.{YieldsList-from_slice}
+use Rattle.std.proofs.lemmas.Iterator.Search.{position_from_yields_List}
+use Rattle.text.specs.Line.{first_line}
+use Rattle.fields.proofs.Laws.Runs.{line_found, line_open}
 use Rattle.fields.proofs.line.line_end.Goals as goal
 
-pub returns-then-s-i-eq10 : goal.returns-then-s-i-eq10
-returns-then-s-i-eq10 c =
-    let s = c.args.s.now in
-    let i = c.loop-i.i in
-    omega (arith, line_stops s i c.loop-i-test.true c.if-s-i-eq10.true, c.loop-i.invariant)
+pub returns-in-Some : goal.returns-in-Some
+returns-in-Some c =
+    let t = c.from-rest.result.now in
+    let where_it-is = position_from_yields_List (λ b. eqb b 10) _ _ c.position.result c.position.ensures.ran (YieldsList-from_slice t (cc)) (λ x b q k. search (rules, tests)) in
+    ap (λ (n : ℕ). c.args.at + n) (sym (line_found t c.position.result where_it-is c.in-Some.i c.in-Some.is) ∙ ap (λ (l : List ℕ). length (first_line l)) c.from-rest.ensures)
 
-pub loop-i-preserved : goal.loop-i-preserved
-loop-i-preserved c =
-    let s = c.args.s.now in
-    let i = c.loop-i.i in
-    rw add-one
-    (omega (arith, line_goes_on s i c.loop-i-test.true c.if-s-i-eq10.false, c.loop-i.invariant))
-
-pub returns : goal.returns
-returns c =
-    omega (arith, line_empty c.args.s.now c.loop-i.i c.loop-i-test.false, c.loop-i.invariant)
+pub returns-in-None : goal.returns-in-None
+returns-in-None c =
+    let t = c.from-rest.result.now in
+    let where_it-is = position_from_yields_List (λ b. eqb b 10) _ _ c.position.result c.position.ensures.ran (YieldsList-from_slice t (cc)) (λ x b q k. search (rules, tests)) in
+    ap (λ (n : ℕ). c.args.at + n) (sym (line_open t c.position.result where_it-is c.in-None.is) ∙ ap (λ (l : List ℕ). length (first_line l)) c.from-rest.ensures)

@@ -1,41 +1,35 @@
--- `fields::row::row_at` meets its contract: number after number, and what is left of the line equals the whole. Assumes nothing.
-use Prim.Native.Nat.{◌+◌}
-use lib.ListN.{set, length-set}
-use mathlib.Core.Path.{◌∙◌, subst}
-use Rattle.fields.specs.Inner.RowAt.{FieldAt, IsRow}
-use Rattle.fields.proofs.Laws.RowLoop.{reading_starts, reading_fails, reading_too_many, reading_goes_on, reading_ends, five_cells}
+-- `fields::row::row_at` meets its contract: number by number. Assumes nothing.
+use mathlib.Core.Path.{sym, subst}
+use Rattle.fields.specs.Inner.RowAt.{NextAt, RowAt}
+use Rattle.fields.proofs.Laws.RowLoop.{reading_starts, reading_fails, reading_ends, reading_goes_on, reading_too_many}
 use Rattle.fields.proofs.row.row_at.Goals as goal
 
 pub loop-k-init : goal.loop-k-init
 loop-k-init c = reading_starts c.args.s.now c.args.at
 
-pub returns-in-Bad : goal.returns-in-Bad
-returns-in-Bad c =
+pub returns-in_err-field : goal.returns-in_err-field
+returns-in_err-field c =
     let a = c.args in
     let l = c.loop-k in
-    let none = subst (FieldAt a.s.now l.i) c.in-Bad.is c.field_at.ensures in
-    reading_fails a.s.now a.at l.i l.k l.numbers l.invariant none
+    subst (RowAt a.s.now a.at) (sym c.from_residual.ensures) (reading_fails a.s.now a.at l.here l.k l.numbers l.invariant c.in_err-field.ensures)
 
-pub returns-in-Last : goal.returns-in-Last
-returns-in-Last c =
+pub returns-in-None : goal.returns-in-None
+returns-in-None c =
     let a = c.args in
     let l = c.loop-k in
-    let v = c.in-Last.v in
-    let last = subst (FieldAt a.s.now l.i) c.in-Last.is c.field_at.ensures in
-    let numbers = set l.numbers l.k v in
-    subst (IsRow a.s.now a.at (l.k + 1)) (five_cells numbers (length-set l.numbers l.k v ∙ l.invariant.long))
-    (reading_ends a.s.now a.at l.i l.k l.numbers l.invariant c.loop-k-test.true v last)
+    let f = c.in_ok-field.field in
+    reading_ends a.s.now a.at l.here l.k l.numbers l.invariant c.loop-k-test.true f.value
+    (subst (NextAt a.s.now l.here f.value) c.in-None.is c.in_ok-field.ensures)
 
 pub loop-k-preserved : goal.loop-k-preserved
 loop-k-preserved c =
     let a = c.args in
     let l = c.loop-k in
-    let m = c.in-More in
-    let more = subst (FieldAt a.s.now l.i) m.is c.field_at.ensures in
-    reading_goes_on a.s.now a.at l.i l.k l.numbers l.invariant c.loop-k-test.true m.v m.next more
+    let f = c.in_ok-field.field in
+    reading_goes_on a.s.now a.at l.here l.k l.numbers l.invariant c.loop-k-test.true f.value c.in-Some.next
+    (subst (NextAt a.s.now l.here f.value) c.in-Some.is c.in_ok-field.ensures)
 
 pub returns : goal.returns
 returns c =
-    let a = c.args in
     let l = c.loop-k in
-    reading_too_many a.s.now a.at l.i l.k l.numbers l.invariant c.loop-k-test.false
+    reading_too_many c.args.s.now c.args.at l.here l.k l.numbers l.invariant c.loop-k-test.false

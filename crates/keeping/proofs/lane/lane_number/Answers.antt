@@ -1,45 +1,45 @@
--- `keeping::lane::lane_number` meets its contract: the bits from k on add up to the number, and k counts down to 0.
-use Prim.Native.Nat.{ℕ, ◌-◌, min}
+-- `keeping::lane::lane_number` meets its contract: the bits of the words taken, from the last back, add up to the number.
+use Prim.Native.Nat.{◌<◌}
 use native.Mathlib.Omega.{arith}
-use mathlib.Core.Path.{◌≡◌, ap, ◌∙◌, subst}
-use lib.ListN.{length}
+use mathlib.Core.List.{reverse}
+use mathlib.Core.Path.{◌≡◌, ap, ◌∙◌}
+use lib.ListN.{length, take, get_or}
+use Rattle.std.proofs.lemmas.Iterator.Adapters.{YieldsList-from_rev_slice}
+use Rattle.std.proofs.lemmas.Iterator.Consumers.{YieldsList-turn, YieldsList-end}
+use Rattle.std.proofs.lemmas.List.{length_push}
 use Rattle.bits.specs.Bit.{one_if}
 use Rattle.circuit.specs.Limits.{base}
-use Rattle.keeping.specs.Inner.InLane.{number_of, lane_number}
-use Rattle.keeping.proofs.Laws.InLane.{lane_bit, number_fits}
-use Rattle.step.proofs.Laws.Truths.{one_if-bit}
-use Rattle.step.proofs.Laws.FromTop.{FromTop, top_start, top_next, top_end}
+use Rattle.keeping.proofs.Laws.InLane.{byte_is, taken_none, taken_next, next_fits, taken_all}
 use Rattle.keeping.proofs.lane.lane_number.Goals as goal
+use Rattle.keeping.proofs.lane.lane_number.Goals.{In-Some}
 
-pub loop-k-init : goal.loop-k-init
-loop-k-init c = let a = c.args in
-    rw c.fewer-k.ensures (top_start (lane_bit a.words.now a.j) (min (length a.words.now) base.latches))
+-- the word of this turn
+turn : (c : In-Some) → (length c.loop-word.yielded < length (reverse (take base.latches c.args.words.now)))
+    × (c.in-Some.word.now ≡ get_or (reverse (take base.latches c.args.words.now)) (length c.loop-word.yielded) c.in-Some.word.now)
+turn c = let l = c.loop-word in
+    YieldsList-turn (YieldsList-from_rev_slice (take base.latches c.args.words.now) cc) l.yielded _ l.yielded_by _ _ c.in-Some.word c.in-Some.is c.next.ensures.steps
 
-pub bounds-words-k : goal.bounds-words-k
-bounds-words-k c = omega (arith, c.loop-k.invariant.within)
+pub loop-word-init : goal.loop-word-init
+loop-word-init c = taken_none c.args.words.now c.args.j
 
 pub overflow_mul-number : goal.overflow_mul-number
-overflow_mul-number c = let a = c.args in
-    let l = c.loop-k in
-    omega (arith, number_fits a.words.now a.j l.k l.number l.invariant)
+overflow_mul-number c = let l = c.loop-word in
+    omega (arith, next_fits c.args.words.now c.args.j (length l.yielded) l.number c.in-Some.word.now l.invariant (turn c))
 
 pub overflow_add-number : goal.overflow_add-number
-overflow_add-number c = let a = c.args in
-    let l = c.loop-k in
-    omega (arith, number_fits a.words.now a.j l.k l.number l.invariant, c.one_if-b.ensures, one_if-bit c.is_lane.result)
+overflow_add-number c = let l = c.loop-word in
+    omega (
+      arith,
+      next_fits c.args.words.now c.args.j (length l.yielded) l.number c.in-Some.word.now l.invariant (turn (goal.at.overflow_add-number c).In-Some),
+      c.from.ensures ∙ byte_is c.is_lane.result ∙ ap one_if c.is_lane.ensures,
+    )
 
-pub loop-k-preserved : goal.loop-k-preserved
-unfolding lane_bit
-loop-k-preserved c = let a = c.args in
-    let l = c.loop-k in
-    let f = lane_bit a.words.now a.j in
-    let n = min (length a.words.now) base.latches in
-    let b : c.one_if-b.result ≡ f (l.k - 1) = c.one_if-b.ensures ∙ ap one_if c.is_lane.ensures in
-    rw b (top_next f n (l.k - 1) l.number (subst (λ (m : ℕ). FromTop f n m l.number) (omega arith) l.invariant))
+pub loop-word-preserved : goal.loop-word-preserved
+loop-word-preserved c = let l = c.loop-word in
+    rw (length_push l.yielded c.in-Some.word, c.from.ensures ∙ byte_is c.is_lane.result ∙ ap one_if c.is_lane.ensures)
+    (taken_next c.args.words.now c.args.j (length l.yielded) l.number c.in-Some.word.now l.invariant (turn (goal.at.loop-word-preserved c).In-Some))
 
 pub returns : goal.returns
-unfolding number_of lane_number lane_bit
-returns c = let a = c.args in
-    let l = c.loop-k in
-    let n = min (length a.words.now) base.latches in
-    top_end (lane_bit a.words.now a.j) n l.number (subst (λ (m : ℕ). FromTop (lane_bit a.words.now a.j) n m l.number) (omega arith) l.invariant)
+returns c = let l = c.loop-word in
+    let t = YieldsList-end (YieldsList-from_rev_slice (take base.latches c.args.words.now) cc) l.yielded _ l.yielded_by _ _ c.in-None.is c.next.ensures.steps in
+    taken_all c.args.words.now c.args.j (length l.yielded) l.number l.invariant t.1

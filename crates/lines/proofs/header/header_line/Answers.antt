@@ -1,29 +1,32 @@
 -- `lines::header::header_line` meets its contract: the word, then five numbers. Assumes nothing.
-use mathlib.Core.Path.{refl, sym, ◌∙◌, subst}
-use Rattle.fields.specs.Inner.RowAt.{RowAt}
+use mathlib.Core.Path.{sym, subst, ◌∙◌}
+use Rattle.fields.proofs.Laws.Compared.{starts_pointwise}
+use Rattle.lines.specs.Inner.Headed.{HeadedAs}
 use Rattle.lines.proofs.Laws.HeaderLine.{header_is, header_none, header_malformed, header_other-count}
+use Rattle.text.specs.Header.{word}
 use Rattle.lines.proofs.header.header_line.Goals as goal
 
-pub returns-in_default : goal.returns-in_default
-returns-in_default c =
+pub returns-then-not-starts_with : goal.returns-then-not-starts_with
+returns-then-not-starts_with c =
     let line = c.args.line.now in
-    header_malformed line (sym c.starts_with.ensures ∙ c.if-starts_with.true)
-    (subst (RowAt line 4) c.in_default.is c.row_at.ensures)
+    header_none line (starts_pointwise word line ∙ sym c.starts_with.ensures.value ∙ c.if-not-starts_with.true)
 
-pub returns-then-count-eq5 : goal.returns-then-count-eq5
-returns-then-count-eq5 c =
+pub returns-in_err-row : goal.returns-in_err-row
+returns-in_err-row c =
     let line = c.args.line.now in
-    let r = c.in-Of in
-    header_is line (sym c.starts_with.ensures ∙ c.if-starts_with.true)
-    r.count _ refl (subst (RowAt line 4) r.is c.row_at.ensures) c.if-count-eq5.true
+    subst (HeadedAs line) (sym c.from_residual.ensures)
+    (header_malformed line (starts_pointwise word line ∙ sym c.starts_with.ensures.value ∙ c.if-not-starts_with.false) c.in_err-row.ensures)
 
-pub returns-else-count-eq5 : goal.returns-else-count-eq5
-returns-else-count-eq5 c =
+pub returns-then-row-ne5 : goal.returns-then-row-ne5
+returns-then-row-ne5 c =
     let line = c.args.line.now in
-    let r = c.in-Of in
-    header_other-count line (sym c.starts_with.ensures
-    ∙ c.if-starts_with.true) r.count _ (subst (RowAt line 4) r.is
-    c.row_at.ensures) c.if-count-eq5.false
+    let r = c.in_ok-row.row in
+    header_other-count line (starts_pointwise word line ∙ sym c.starts_with.ensures.value ∙ c.if-not-starts_with.false) r.count r.numbers c.in_ok-row.ensures
+    c.if-row-ne5.true
 
-pub returns-else-starts_with : goal.returns-else-starts_with
-returns-else-starts_with c = header_none c.args.line.now (sym c.starts_with.ensures ∙ c.if-starts_with.false)
+pub returns : goal.returns
+returns c =
+    let line = c.args.line.now in
+    let r = c.in_ok-row.row in
+    header_is line (starts_pointwise word line ∙ sym c.starts_with.ensures.value ∙ c.if-not-starts_with.false) r.count r.numbers c.in_ok-row.ensures
+    c.if-row-ne5.false

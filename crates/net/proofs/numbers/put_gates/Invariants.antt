@@ -1,11 +1,18 @@
--- What `net::numbers::put_gates` keeps from turn to turn: what is left to put and to name gives the whole; each turn does so with one gate.
-use Prim.Native.Nat.{◌+◌, ◌-◌}
-use Rattle.net.proofs.Laws.Putting.{Gates}
+-- What `put_gates` keeps from turn to turn: what is left to put and to name, over the numbers and names so far, gives the whole.
+use Rattle.std.proofs.Common.{◌≡◌, ◌+◌, ◌*◌, length, drop}
+use Rattle.std.proofs.lemmas.List.Edits.{sets}
+use Rattle.circuit.specs.Stored.{meant}
+use Rattle.net.specs.Inner.NamesIn.{names_in}
+use Rattle.net.specs.Made.{most}
+use Rattle.net.specs.NetOf.{name_gates, operands_of}
 use Rattle.net.proofs.numbers.put_gates.Given as goal
 
 abbrev pub invariant-loop-i : goal.invariant-loop-i
-invariant-loop-i l = Gates l.gate l.left l.right l.gates (1 + l.inputs + l.latches)
-    (4 + l.latches) l.initial.numbers l.initial.names l.v l.at l.i l.numbers l.names
-
-abbrev pub decreases-loop-i : goal.decreases-loop-i
-decreases-loop-i l = l.gates - l.i
+invariant-loop-i l =
+    let gates = (meant l.c).gates in record {
+      long : length l.numbers ≡ most;
+      put : sets l.initial.numbers l.start (operands_of gates l.first (names_in l.initial.names.given))
+          ≡ sets l.numbers (l.start + 2 * l.i) (operands_of (drop l.i gates) (l.first + l.i) (names_in l.names.given));
+      named : name_gates gates l.first (names_in l.initial.names.given)
+          ≡ name_gates (drop l.i gates) (l.first + l.i) (names_in l.names.given);
+    }

@@ -1,85 +1,69 @@
 -- `reader::read::read` meets its contract: length, header, limits, and then the lines, in the order of the numbers. Assumes nothing.
-use borrow.Author.Rules.{rules}
-use Prim.Native.Nat.{ℕ, ◌-◌, ◌≤◌}
-use lib.ListN.{length, take, drop, length-take, length-drop}
-use lib.Seq.{length-take-le}
-use mathlib.Core.List.{List}
-use mathlib.Core.Path.{◌≡◌, sym, ap, ◌∙◌, subst}
 use native.Mathlib.Omega.{arith}
+use lib.ListN.{length, length-drop}
+use mathlib.Core.List.{List, [], ◌∷◌}
+use mathlib.Core.Option.{none, some}
+use mathlib.Core.Path.{◌≡◌, refl, sym, ap, ◌∙◌, subst}
+use Prim.Native.Nat.{ℕ}
 use Rattle.circuit.specs.Answer.{ReadAs}
 use Rattle.circuit.specs.Circuit.{Circuit}
 use Rattle.circuit.specs.Limits.{base}
 use Rattle.circuit.specs.Outcome.{Outcome}
-use Rattle.lines.specs.Inner.Headed.{said, HeadedAs}
-use Rattle.reader.proofs.Laws.FileLoop.{within_says, circuit_too_long, circuit_headless, circuit_over, circuit_lines, first_part, rest_part}
+use Rattle.circuit.specs.declared.numbers.Fault.TheVariants.{FileTooLong, BadHeader, HeaderLimit}
+use Rattle.lines.specs.Inner.Headed.{said}
+use Rattle.reader.proofs.Laws.Behind.{refused_as}
+use Rattle.reader.proofs.Laws.FileLoop.{within_says, circuit_too_long, circuit_headless, circuit_over, circuit_lines, first_part}
 use Rattle.reader.proofs.Laws.Place.{line_ends_within}
-use Rattle.reader.proofs.Laws.ReadLoop.{read_refused_lem}
 use Rattle.reader.specs.Inner.LinesAs.{circuit_of_lines}
+use Rattle.text.specs.Header.{header_numbers}
 use Rattle.text.specs.Line.{lines, first_line}
 use Rattle.text.specs.Read.{lines_read, circuit_read}
 use Rattle.reader.proofs.read.read.Goals as goal
-use Rattle.reader.proofs.read.read.Goals.{After-line_end-end}
+use Rattle.reader.proofs.read.read.Goals.{After-split_at, In-Some}
+
+-- the first line is the front
+first : (c : After-split_at) → c.split_at.result.0.now ≡ first_line c.args.file.now
+first c = c.split_at.ensures.front ∙ first_part c.args.file.now c.line_end.result c.line_end.ensures
+
+-- and the header's numbers stand in it
+numbers : (c : In-Some) → header_numbers (first_line c.args.file.now) ≡ some (c.in-Some.header.largest ∷ c.in-Some.header.inputs
+    ∷ c.in-Some.header.latches ∷ c.in-Some.header.outputs ∷ c.in-Some.header.gates ∷ [])
+numbers c = sym (ap header_numbers (first (goal.at.In-Some c).After-split_at)) ∙ c.in-Some.ensures
 
 pub returns-then-file-gt-FILE : goal.returns-then-file-gt-FILE
 returns-then-file-gt-FILE c =
     let file = c.args.file.now in
-    read_refused_lem (circuit_read base file) 1 0 c.refused.result (circuit_too_long file c.if-file-gt-FILE.true) c.refused.ensures
+    refused_as (circuit_read base file) (record { fault = FileTooLong; place = 0 }) _ (circuit_too_long file c.if-file-gt-FILE.true) refl
 
-pub slice_bounds-header_line-end : goal.slice_bounds-header_line-end
-slice_bounds-header_line-end c =
-    let file = c.args.file.now in
-    let e = c.line_end-end in
-    sym (length-take-le e.result file (line_ends_within file 0 e.result e.ensures (omega arith)))
+pub split_at-requires : goal.split_at-requires
+split_at-requires c = line_ends_within c.args.file.now 0 c.line_end.result c.line_end.ensures (omega arith)
 
 pub returns-in_default : goal.returns-in_default
 returns-in_default c =
     let file = c.args.file.now in
-    let e = c.line_end-end in
-    let line : take e.result file ≡ first_line file = first_part file e.result e.ensures in
-    read_refused_lem (circuit_read base file) 2 1 c.refused-in_default.result
-    (circuit_headless file c.if-file-gt-FILE.false
-    (rw line at (subst (HeadedAs (take e.result file)) c.in_default.is c.header_line.ensures)))
-    c.refused-in_default.ensures
+    let headless = subst (λ (l : List ℕ). header_numbers l ≡ none) (first (goal.at.returns-in_default c).After-split_at) c.in_default.ensures in
+    refused_as (circuit_read base file) (record { fault = BadHeader; place = 1 }) _ (circuit_headless file c.if-file-gt-FILE.false headless) refl
 
--- where the header ends
-ends : (c : goal.After-line_end-end) → c.line_end-end.result ≤ length c.args.file.now
-ends c = line_ends_within c.args.file.now 0 c.line_end-end.result c.line_end-end.ensures (omega arith)
-
-pub read_lines-requires : goal.read_lines-requires
-read_lines-requires c =
+pub returns-then-not-within : goal.returns-then-not-within
+returns-then-not-within c =
     let file = c.args.file.now in
-    let e = c.line_end-end in
+    let told = numbers (goal.at.returns-then-not-within c).In-Some in
+    let over = circuit_over file c.if-file-gt-FILE.false (said c.in-Some.header) told (sym c.within.ensures ∙ c.if-not-within.true) in
+    refused_as (circuit_read base file) (record { fault = HeaderLimit; place = 1 }) _ over refl
+
+pub invariant_of-circuit : goal.invariant_of-circuit
+invariant_of-circuit c =
     record {
-      file = omega (arith, c.if-file-gt-FILE.false, length-take (length file - e.result) (drop e.result file), length-drop e.result file);
-      few = within_says (said c.in-Is.h) (sym c.within.ensures ∙ c.if-within.true);
+      few = within_says (said c.in-Some.header) (sym c.within.ensures ∙ c.if-not-within.false);
+      short = omega (arith, c.if-file-gt-FILE.false, ap length c.split_at.ensures.back, length-drop c.line_end.result c.args.file.now);
     }
-
-pub returns-then-within : goal.returns-then-within
-returns-then-within c =
-    let file = c.args.file.now in
-    let e = c.line_end-end in
-    let line : take e.result file ≡ first_line file = first_part file e.result e.ensures in
-    let g = c.in-Is in
-    let is = subst (HeadedAs (take e.result file)) g.is c.header_line.ensures in
-    subst (λ (o : Outcome Circuit). ReadAs o c.read_lines.result)
-    (ap (λ (l : List ℕ). circuit_of_lines (lines_read (said g.h) (lines l))) (rest_part file e.result)
-    ∙ sym (circuit_lines file c.if-file-gt-FILE.false (said g.h) (rw line at is)
-    (sym c.within.ensures ∙ c.if-within.true)
-    e.result e.ensures))
-    c.read_lines.ensures
 
 pub returns : goal.returns
 returns c =
     let file = c.args.file.now in
-    let e = c.line_end-end in
-    let line : take e.result file ≡ first_line file = first_part file e.result e.ensures in
-    let g = c.in-Is in
-    let is = subst (HeadedAs (take e.result file)) g.is c.header_line.ensures in
-    read_refused_lem (circuit_read base file) 3 1 c.refused-2.result (circuit_over file c.if-file-gt-FILE.false (said g.h) (rw line at is)
-    (sym c.within.ensures ∙ c.if-within.false)) c.refused-2.ensures
-
-pub slice_bounds-read_lines-count : goal.slice_bounds-read_lines-count
-slice_bounds-read_lines-count c = search (rules, ends (goal.at.slice_bounds-read_lines-count c).After-line_end-end)
-
-pub slice_bounds-read_lines-start : goal.slice_bounds-read_lines-start
-slice_bounds-read_lines-start c = search (rules, ends (goal.at.slice_bounds-read_lines-start c).After-line_end-end)
+    let h = said c.in-Some.header in
+    let told = numbers (goal.at.returns c).In-Some in
+    let whole = circuit_lines file c.if-file-gt-FILE.false h told (sym c.within.ensures ∙ c.if-not-within.false) c.line_end.result
+    c.line_end.ensures in
+    subst (λ (o : Outcome Circuit). ReadAs o c.circuit.result)
+    (ap (λ (l : List ℕ). circuit_of_lines (lines_read h (lines l))) c.split_at.ensures.back ∙ sym whole) c.circuit.ensures

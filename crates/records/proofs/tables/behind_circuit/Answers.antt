@@ -1,88 +1,46 @@
 -- `records::tables::behind_circuit` meets its contract: each test is one that `second_of` makes. Assumes nothing.
-use native.Mathlib.Omega.{arith}
-use mathlib.Core.Path.{sym, ap, ◌∙◌}
-use Rattle.records.specs.Record.{Split, head_length}
-use Rattle.records.specs.Shape.{shape_of}
-use Rattle.records.specs.Tables.{accepted_kinds, second_of}
-use Rattle.records.specs.Inner.Part.{part}
-use Rattle.records.proofs.Laws.RecordAt.{Found, found_record, found_none}
-use Rattle.records.proofs.Laws.Shape.{length_part, second_region, second-other, second_more, second_is, shape_attacks}
+use Rattle.std.proofs.Common.{◌≡◌, ◌∙◌, sym, ap, refl, Some, None}
+use Rattle.std.specs.Result.{result_ok}
+use Rattle.records.specs.Kinds.{kind_of}
+use Rattle.records.specs.declared.kinds.Kind.TheVariants.{Region, Attacks}
+use Rattle.records.proofs.Laws.Kinds.{kind_known, kind_unknown, another_kind}
+use Rattle.records.proofs.Laws.RecordAt.{found_record}
+use Rattle.records.proofs.Laws.Shape.{no_second, second_region, second_other, second_attacks}
 use Rattle.records.proofs.tables.behind_circuit.Goals as goal
-use Rattle.records.proofs.tables.behind_circuit.Goals.{In-Whole}
+use Rattle.records.proofs.tables.behind_circuit.Goals.{In_ok-ok}
 
--- the record there, where it is whole
-found :
-    (c : goal.In-Whole) → Found c.args.certificate.now c.args.circuit
-    c.in-Whole.kind c.in-Whole.start c.in-Whole.end
-found c =
-    found_record c.args.certificate.now c.args.circuit c.in-Whole.kind
-    c.in-Whole.start c.in-Whole.end c.in-Whole.ensures
+pub returns-in_err-second : goal.returns-in_err-second
+returns-in_err-second c = λ first e. c.from_residual.ensures ∙ no_second c.args.certificate.now c.args.circuit.end c.in_err-second.ensures first
+
+pub returns-in_err-ok : goal.returns-in_err-ok
+returns-in_err-ok c = λ first e.
+    let r = c.in_ok-second.second in
+    let none : None ≡ result_ok (kind_of r.kind) = c.in_err-ok.ensures.value ∙ ap result_ok c.try_from.ensures in
+    c.from_residual-in_err-ok.ensures
+    ∙ second_other c.args.certificate.now c.args.circuit.end r c.in_ok-second.ensures first (kind_unknown r.kind none Region) (kind_unknown r.kind none Attacks)
+
+-- the kind of the record there
+known : (c : goal.In_ok-ok) → Some c.in_ok-ok.field-0 ≡ result_ok (kind_of c.in_ok-second.second.kind)
+known c = c.in_ok-ok.ensures.value ∙ ap result_ok c.try_from.ensures
+
+pub returns-in-Region : goal.returns-in-Region
+returns-in-Region c = λ first e.
+    let l = c.args.certificate.now in
+    let r = c.in_ok-second.second in
+    c.behind_region.ensures first _ e (found_record l c.args.circuit.end r c.in_ok-second.ensures).lies
+    ∙ second_region l c.args.circuit.end r c.in_ok-second.ensures first
+    (kind_known r.kind Region (ap Some (sym c.in-Region.is) ∙ known (goal.at.returns-in-Region c).In_ok-ok))
+
+pub returns-in-Attacks : goal.returns-in-Attacks
+returns-in-Attacks c = λ first e.
+    let r = c.in_ok-second.second in
+    c.then_some.ensures
+    ∙ second_attacks c.args.certificate.now c.args.circuit.end r c.in_ok-second.ensures first
+    (kind_known r.kind Attacks (ap Some (sym c.in-Attacks.is) ∙ known (goal.at.returns-in-Attacks c).In_ok-ok)) c.args.circuit e refl
 
 pub returns-in_default : goal.returns-in_default
-unfolding shape_of second_of
-returns-in_default c =
-    let a = c.args in
-    sym (ap (λ (s : Split). shape_of (second_of accepted_kinds (part head_length a.circuit a.certificate.now) s))
-    (found_none a.certificate.now a.circuit c.in_default.ensures))
-
-pub behind_region-requires : goal.behind_region-requires
-behind_region-requires c =
-    let f = found (goal.at.behind_region-requires c).In-Whole in record {
-      within = c.requires;
-      region_within = record { ordered = f.ordered; inside = f.within };
-      region_start = f.begins;
-    }
-
-pub returns-then-kind-eq-REGION : goal.returns-then-kind-eq-REGION
-unfolding shape_of second_of
-returns-then-kind-eq-REGION c =
-    let a = c.args in
-    c.behind_region.ensures
-    ∙ sym (ap (λ (s : Split). shape_of (second_of accepted_kinds (part head_length a.circuit a.certificate.now) s))
-    (found (goal.at.returns-then-kind-eq-REGION c).In-Whole).splits
-    ∙ ap shape_of (second_region accepted_kinds (part head_length a.circuit a.certificate.now) a.certificate.now
-    c.in-Whole.kind c.in-Whole.end
-    (part c.in-Whole.start c.in-Whole.end a.certificate.now)
-    c.if-kind-eq-REGION.true))
-
-pub returns-then-kind-ne-ATTACKS : goal.returns-then-kind-ne-ATTACKS
-unfolding shape_of second_of
-returns-then-kind-ne-ATTACKS c =
-    let a = c.args in
-    sym (ap (λ (s : Split). shape_of (second_of accepted_kinds (part head_length a.circuit a.certificate.now) s))
-    (found (goal.at.returns-then-kind-ne-ATTACKS c).In-Whole).splits
-    ∙ ap shape_of (second-other accepted_kinds (part head_length a.circuit a.certificate.now) a.certificate.now
-    c.in-Whole.kind c.in-Whole.end
-    (part c.in-Whole.start c.in-Whole.end a.certificate.now)
-    c.if-kind-eq-REGION.false c.if-kind-ne-ATTACKS.true))
-
-pub returns-then-end-certificate : goal.returns-then-end-certificate
-unfolding shape_of second_of
-returns-then-end-certificate c =
-    let a = c.args in
-    sym (ap (λ (s : Split). shape_of (second_of accepted_kinds (part head_length a.circuit a.certificate.now) s))
-    (found (goal.at.returns-then-end-certificate c).In-Whole).splits
-    ∙ ap shape_of (second_more accepted_kinds (part head_length a.circuit a.certificate.now) a.certificate.now
-    c.in-Whole.kind c.in-Whole.end
-    (part c.in-Whole.start c.in-Whole.end a.certificate.now)
-    c.if-kind-eq-REGION.false (found (goal.at.returns-then-end-certificate c).In-Whole).within c.if-end-certificate.true))
-
-pub returns : goal.returns
-unfolding shape_of second_of
-returns c =
-    let a = c.args in
-    let p = c.requires in
-    shape_attacks (part head_length a.circuit a.certificate.now) (part c.in-Whole.start c.in-Whole.end a.certificate.now) a.circuit c.in-Whole.start
-    c.in-Whole.end
-    (omega (arith, length_part head_length a.circuit a.certificate.now p.inside, p))
-    (found (goal.at.returns c).In-Whole).begins
-    (omega (
-      arith,
-      length_part c.in-Whole.start c.in-Whole.end a.certificate.now (found (goal.at.returns c).In-Whole).within,
-      found
-          (goal.at.returns c).In-Whole,
-    ))
-    ∙ sym (ap (λ (s : Split). shape_of (second_of accepted_kinds (part head_length a.circuit a.certificate.now) s)) (found (goal.at.returns c).In-Whole).splits
-    ∙ ap shape_of (second_is accepted_kinds (part head_length a.circuit a.certificate.now) a.certificate.now c.in-Whole.kind
-    c.in-Whole.end (part c.in-Whole.start c.in-Whole.end a.certificate.now)
-    c.if-kind-eq-REGION.false c.if-kind-ne-ATTACKS.false c.if-end-certificate.false))
+returns-in_default c = λ first e.
+    let r = c.in_ok-second.second in
+    let is = known (goal.at.returns-in_default c).In_ok-ok in
+    second_other c.args.certificate.now c.args.circuit.end r c.in_ok-second.ensures first (another_kind r.kind _ Region is c.in_default.not-Region)
+    (another_kind r.kind _ Attacks is c.in_default.not-Attacks)

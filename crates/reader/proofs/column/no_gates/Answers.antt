@@ -1,7 +1,0 @@
--- `reader::column::no_gates` meets its contract: the same number everywhere. Assumes nothing.
-use Rattle.below.proofs.Laws.Filled.{replicate_table}
-use Rattle.circuit.specs.Limits.{base}
-use Rattle.reader.proofs.column.no_gates.Goals as goal
-
-pub returns : goal.returns
-returns c = replicate_table base.variable 0

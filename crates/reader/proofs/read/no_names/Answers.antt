@@ -1,8 +1,0 @@
--- `reader::read::no_names` meets its contract: the same number everywhere. Assumes nothing.
-use Prim.Native.Nat.{◌+◌}
-use Rattle.below.proofs.Laws.Filled.{replicate_table}
-use Rattle.circuit.specs.Limits.{base}
-use Rattle.reader.proofs.read.no_names.Goals as goal
-
-pub returns : goal.returns
-returns c = replicate_table (base.inputs + base.latches + base.outputs) 0

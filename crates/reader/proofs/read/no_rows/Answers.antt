@@ -1,8 +1,0 @@
--- `reader::read::no_rows` meets its contract: the same number everywhere. Assumes nothing.
-use Prim.Native.Nat.{◌+◌, ◌*◌}
-use Rattle.below.proofs.Laws.Filled.{replicate_table}
-use Rattle.circuit.specs.Limits.{base}
-use Rattle.reader.proofs.read.no_rows.Goals as goal
-
-pub returns : goal.returns
-returns c = replicate_table (3 * (base.variable + 1)) 0

@@ -1,7 +1,0 @@
--- `solver::look::readings` meets its contract: a small net has no more readings than a circuit may have.
-use mathlib.Core.Path.{◌∙◌}
-use Rattle.solver.proofs.Laws.Moves.{readings_are_lem}
-use Rattle.solver.proofs.look.readings.Goals as goal
-
-pub returns : goal.returns
-returns c = c.numbers.ensures ∙ readings_are_lem c.args.net.now c.requires c.number_at.result c.number_at.ensures

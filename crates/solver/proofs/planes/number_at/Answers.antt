@@ -1,8 +1,0 @@
--- `solver::planes::number_at` meets its contract: a number that isn't there counts as 0.
-use mathlib.Core.Path.{sym}
-use lib.ListN.{get_or-eq_default}
-use borrow.Author.Rules.{rules}
-use Rattle.solver.proofs.planes.number_at.Goals as goal
-
-pub returns-else-i-net : goal.returns-else-i-net
-returns-else-i-net c = let a = c.args in sym (get_or-eq_default a.net.now 0 {n = a.i} (search rules))

@@ -1,7 +1,0 @@
--- `solver::rooms::small_planes` meets its contract: the same number everywhere.
-use Prim.Native.Nat.{◌*◌}
-use Rattle.below.proofs.Laws.Filled.{replicate_table}
-use Rattle.solver.proofs.rooms.small_planes.Goals as goal
-
-pub returns : goal.returns
-returns c = replicate_table (512 * 12) 0
