@@ -2,7 +2,7 @@
 // Definitions (specs/) and their laws (proofs/Laws/). And what code does with lists of any items.
 #![tactic(auto)]
 
-ghost use Rattle.std.specs.Prelude.{◌≡◌, get_or, take};
+ghost use Rattle.std.specs.Prelude.{◌≡◌, drop, get_or, take};
 ghost use Rattle.below.specs.Table.{table};
 
 // The item at a place; one that isn't there counts as another.
@@ -17,6 +17,13 @@ pub fn front<T>(items: &[T], n: usize) -> &[T]
     ensures { result.now ≡ take n items.now }
 {
     &items[..n.min(items.len())]
+}
+
+// The items from n on, or none if there are fewer.
+pub fn behind<T>(items: &[T], n: usize) -> &[T]
+    ensures { result.now ≡ drop n items.now }
+{
+    items.get(n..).unwrap_or(&[])
 }
 
 // As many of the same item as the array has room for.

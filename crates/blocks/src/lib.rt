@@ -11,7 +11,7 @@ ghost use Rattle.net.specs.Net.{net_nexts, net_operands};
 ghost use Rattle.blocks.specs.Evaluated.{evaluated, error_in, next_in, first_gate};
 ghost use Rattle.blocks.specs.Lane.{width, lane, move_in, lits_in};
 
-use below::get_or;
+use below::{behind, get_or};
 use circuit::Circuit;
 use gates::put_gates;
 use moves::put_move;
@@ -74,8 +74,7 @@ fn first_gate(net: &[u16]) -> usize
 fn operands(net: &[u16]) -> &[u16]
     ensures { result.now ≡ net_operands net.now }
 {
-    let start = 4 + counts::latches(net);
-    &net[start.min(net.len())..]
+    behind(net, 4 + counts::latches(net))
 }
 
 // How many next-state literals are read.

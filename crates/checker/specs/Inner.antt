@@ -1,4 +1,3 @@
-pub mod Sized
 pub mod Holding
 pub mod FileNet
 pub mod TablesAs

@@ -4,7 +4,7 @@ ghost use Rattle.circuit.specs.Limits.{base};
 ghost use Rattle.game.specs.NetGame.{net_move};
 ghost use Rattle.net.specs.InOrder.{InOrder};
 ghost use Rattle.net.specs.Net.{net_latches, net_readings, net_controls};
-ghost use Rattle.checker.specs.Inner.Sized.{Sized};
+ghost use Rattle.net.specs.Sized.{Sized};
 ghost use Rattle.checker.specs.Inner.Holding.{Holding};
 
 use blocks::LITERALS;

@@ -12,7 +12,7 @@ pub use numbers::{Fault, Refusal};
 
 // A circuit (01, "The file"; 02, T-01): counts and literals, inputs and latches in the order of the file, gates in order of evaluation; for each
 // gate line of the file, which of the gates it is.
-// Arrays are of numbers, so that a step can lend them; what lies behind a count isn't read.
+// Arrays are of numbers: of an array of structs in a struct the prover isn't told how long it is. What lies behind a count isn't read.
 #[derive(Clone, Copy)]
 pub struct Circuit {
     pub largest: u16,

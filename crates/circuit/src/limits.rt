@@ -1,5 +1,5 @@
 // Each limit of the circuit kind, tied to the definition that the contracts cite.
-// Kept as functions: each is public, and a law about the constants would promise their callers nothing.
+// No code of this repository calls them: they are public, and each is the proof that code and definition agree.
 ghost use Rattle.std.specs.Prelude.{◌≡◌};
 ghost use Rattle.circuit.specs.Limits.{base};
 

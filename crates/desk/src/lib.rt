@@ -1,5 +1,6 @@
 // What the programs share: the arguments, a file read whole, a file saved, a refusal printed. Trouble is told at once, as one line on
-// standard error. Names, files and certificates stand in arrays with a count beside, so no memory can run out for them.
+// standard error. Names, files and certificates stand in arrays with a count beside, so no memory can run out for them; where a link leads is told
+// by std on the heap.
 #![tactic(auto)]
 
 mod place;
@@ -118,7 +119,7 @@ pub(crate) fn fill<R: Read>(reader: &mut R, space: &mut [u8]) -> Result<usize, C
     ensures end { IfOk result (λ n. n < length space.new → IsAtEnd (R.remaining reader.new)) }
 {
     let mut n = 0;
-    // Kept as a loop by hand: no method of a reader says how many bytes it gave before an error.
+    // Kept as a loop by hand: `read_to_end`, which says how many bytes came before an error, puts them on the heap.
     while n < space.len() {
         match reader.read(&mut space[n..]) {
             Ok(0) => break,

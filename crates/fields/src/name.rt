@@ -5,14 +5,14 @@ ghost use Rattle.fields.specs.Inner.WellNamed.{well_named};
 ghost use Rattle.text.specs.Number.{run};
 ghost use Rattle.text.specs.Symbol.{is_name_byte, is_comment};
 
-use crate::line::from;
+use below::behind;
 
 // Whether a fixed string stands at a place.
 #[tactic(auto, using(crate::proofs::Laws::Compared::starts_pointwise))]
 pub fn starts_with(prefix: &[u8], s: &[u8], at: usize) -> bool
     ensures { result ≡ starts_with prefix.now (drop at s.now) }
 {
-    from(s, at).starts_with(prefix)
+    behind(s, at).starts_with(prefix)
 }
 
 // How many bytes of a name a text begins with.
@@ -29,11 +29,11 @@ fn name_size(text: &[u8]) -> usize
 pub fn is_named(line: &[u8], at: usize) -> bool
     ensures { result ≡ well_named (drop at line.now) }
 {
-    let text = from(line, at);
-    let name = from(text, 1);
+    let text = behind(line, at);
+    let name = behind(text, 1);
     let n = name_size(name);
     let starts = text.starts_with(b" ");
-    let ends = from(name, n) == b"\n".as_slice();
+    let ends = behind(name, n) == b"\n".as_slice();
     starts && ends && 1 <= n && n <= 200
 }
 

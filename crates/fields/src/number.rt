@@ -3,7 +3,7 @@ ghost use Rattle.std.specs.Prelude.{◌^◌, ◌<◌, ◌≡◌, drop};
 ghost use Rattle.fields.specs.Inner.NumberAt.{Digits, NumberAt};
 ghost use Rattle.text.specs.Number.{decimal_value, is_digit, is_numeral, run};
 
-use crate::line::from;
+use below::behind;
 
 // A number with the place behind it.
 #[derive(Clone, Copy, Debug, PartialEq, Eq)]
@@ -16,7 +16,7 @@ pub struct Numeral {
 fn digits_at(s: &[u8], at: usize) -> &[u8]
     ensures { result.now ≡ run is_digit (drop at s.now) }
 {
-    let rest = from(s, at);
+    let rest = behind(s, at);
     let n = rest.iter().take_while(|b| b.is_ascii_digit()).count();
     &rest[..n]
 }

@@ -15,17 +15,12 @@ pub fn line(kind: Kind, bytes: &[u8], m: u32, defined: &[u8]) -> Result<[u32; 3]
     ensures { LinedAs m (rule_of kind m) defined.now bytes.now result }
 {
     let form = form_of(kind);
-    let Some(row) = row_at(bytes, 0) else {
-        return Err(Fault::BadLine);
-    };
+    let row = row_at(bytes, 0).ok_or(Fault::BadLine)?;
     if row.count < form.fewest || form.most < row.count {
         return Err(Fault::BadLine);
     }
     let [own, a, b, ..] = row.numbers;
-    match fault_of(form, m, own, a, b, defined) {
-        Some(fault) => Err(fault),
-        None => Ok([own, a, b]),
-    }
+    fault_of(form, m, own, a, b, defined).map_or(Ok([own, a, b]), Err)
 }
 
 // The first of 5 and 6 that a line's literals call for.

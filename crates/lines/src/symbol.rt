@@ -31,13 +31,10 @@ pub fn symbol_line(line: &[u8], h: Header, named: &[u8]) -> Result<Option<Symbol
     if line.is_empty() {
         return Err(Fault::BadSymbol);
     }
-    let Some(number) = number_at(line, 1) else {
-        return Err(Fault::BadSymbol);
-    };
-    match symbol_at(line, line[0], number, h, named) {
-        Some(symbol) => Ok(Some(symbol)),
-        None => Err(Fault::BadSymbol),
-    }
+    let number = number_at(line, 1).ok_or(Fault::BadSymbol)?;
+    symbol_at(line, line[0], number, h, named)
+        .map(Some)
+        .ok_or(Fault::BadSymbol)
 }
 
 // What stands behind a letter and its position.

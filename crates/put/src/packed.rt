@@ -47,7 +47,7 @@ impl Packing<'_> {
     fn bytes(&self) -> usize
         ensures { result ≡ length (bytes_of self.now) }
     {
-        self.n / 8 * self.width + (self.n % 8 * self.width + 7) / 8
+        self.n / 8 * self.width + (self.n % 8 * self.width).div_ceil(8)
     }
 
     // Byte after byte, where there is room for them.

@@ -4,9 +4,11 @@ pub mod ColumnLoop
 pub mod DefinersLoop
 pub mod FileLoop
 pub mod GatesPlaced
+pub mod Late
 pub mod Lined
 pub mod OrderLoop
 pub mod Place
+pub mod Placed
 pub mod RowsFile
 pub mod Sections
 pub mod SymbolLoop

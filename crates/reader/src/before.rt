@@ -32,19 +32,14 @@ impl Rest<'_> {
         for j in 0..self.line_count() {
             let kind = kind_of(h, j);
             let end = line_end(self.bytes, at);
-            match line(kind, &self.bytes[at..end], h.largest, &defined) {
-                Ok(literals) => {
-                    rows[j] = narrowed(literals);
-                    if form_of(kind).defines {
-                        defined[(literals[0] / 2) as usize] = 1;
-                    }
-                }
-                Err(fault) => {
-                    return Err(Refusal {
-                        fault,
-                        place: 2 + j,
-                    });
-                }
+            let bytes = &self.bytes[at..end];
+            let literals = line(kind, bytes, h.largest, &defined).map_err(|fault| Refusal {
+                fault,
+                place: 2 + j,
+            })?;
+            rows[j] = narrowed(literals);
+            if form_of(kind).defines {
+                defined[(literals[0] / 2) as usize] = 1;
             }
             at = end;
         }

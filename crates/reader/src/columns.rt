@@ -63,13 +63,13 @@ impl Rest<'_> {
         requires { AllPlaced (said self.now.header) body.now.rows order.now }
         ensures { result ≡ value_of (said self.now.header) body.now.rows (take self.now.header.gates order.now) controllable }
     {
-        let inputs = self.header.inputs as usize;
-        let latches = self.header.latches as usize;
-        let gates = self.header.gates as usize;
+        let inputs = self.inputs();
+        let latches = self.latches();
+        let gates = self.gates();
         let order = &order[..gates];
         let (input_rows, behind) = body.rows.split_at(inputs);
         let (latch_rows, behind) = behind.split_at(latches);
-        let gate_rows = ordered(&behind[1..=gates], order);
+        let gate_rows = ordered(self.gate_rows(body), order);
         let gate_rows = &gate_rows[..gates];
         Circuit {
             largest: self.header.largest as u16,

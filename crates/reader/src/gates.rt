@@ -29,21 +29,12 @@ fn definer_of(definers: &[Option<u16>; Circuit::VALUES], l: u16, gates: u16) -> 
 }
 
 impl Rest<'_> {
-    // Where the line of the first gate stands among the rows.
-    fn first_gate(&self) -> usize
-        ensures { result ≡ self.now.header.inputs + self.now.header.latches + 1 }
-    {
-        self.header.inputs as usize + self.header.latches as usize + 1
-    }
-
     // For each variable the first gate that defines it.
     fn definers(&self, body: &Body) -> [Option<u16>; Circuit::VALUES]
         ensures { Definers body.now.rows (self.now.header.inputs + self.now.header.latches + 1) self.now.header.gates result }
     {
         let mut definers: [Option<u16>; Circuit::VALUES] = filled(None);
-        let first = self.first_gate();
-        for j in 0..self.header.gates as usize {
-            let [own, ..] = body.rows[first + j];
+        for (j, [own, ..]) in self.gate_rows(body).iter().enumerate() {
             let v = usize::from(own / 2);
             if definers[v].is_none() {
                 definers[v] = Some(j as u16);
@@ -58,12 +49,10 @@ impl Rest<'_> {
     {
         let definers = self.definers(body);
         let mut uses: [u16; USES] = filled(0);
-        let first = self.first_gate();
-        let gates = self.header.gates as u16;
-        for i in 0..self.header.gates as usize {
-            let [_, left, right] = body.rows[first + i];
-            uses[2 * i] = definer_of(&definers, left, gates);
-            uses[2 * i + 1] = definer_of(&definers, right, gates);
+        let gates = self.gates() as u16;
+        for (i, [_, left, right]) in self.gate_rows(body).iter().enumerate() {
+            uses[2 * i] = definer_of(&definers, *left, gates);
+            uses[2 * i + 1] = definer_of(&definers, *right, gates);
         }
         uses
     }
@@ -75,13 +64,11 @@ impl Rest<'_> {
         let uses = self.uses(body);
         let mut marks: [u8; Circuit::VARIABLES] = filled(0);
         let mut order: [u16; Circuit::VARIABLES] = filled(0);
-        let n = 2 * self.header.gates as usize;
-        match order_of(&uses[..n], &mut marks, &mut order) {
-            Ok(()) => Ok(order),
-            Err(gate) => Err(Refusal {
-                fault: Fault::GateCircle,
-                place: 2 + self.first_gate() + gate,
-            }),
-        }
+        let first = self.first_gate();
+        order_of(&uses[..2 * self.gates()], &mut marks, &mut order).map_err(|gate| Refusal {
+            fault: Fault::GateCircle,
+            place: 2 + first + gate,
+        })?;
+        Ok(order)
     }
 }

@@ -8,24 +8,24 @@ use crate::body::Body;
 use crate::rest::Rest;
 use circuit::{Fault, Refusal};
 use fields::judge::is_unknown;
+use lines::kind::{Kind, kind_of};
 
 impl Rest<'_> {
     // Whether a line behind the inputs uses a literal that is neither a constant nor marked as defined.
-    #[tactic(auto, unfolding(crate::specs::Inner::Rows::late_at, crate::specs::Inner::Rows::cell, crate::specs::Inner::DefinedAs::any_unmarked))]
     fn uses_unknown(&self, body: &Body, k: usize) -> bool
         requires { k ≤ self.now.header.latches + self.now.header.gates }
         ensures { result ≡ any_unmarked body.now.defined (late_at (said self.now.header) body.now.rows k) }
     {
-        let latches = self.header.latches as usize;
-        let [own, first, second] = body.rows[self.header.inputs as usize + k];
-        if k == latches {
-            is_unknown(&body.defined, u32::from(own))
-        } else if k < latches {
-            is_unknown(&body.defined, u32::from(first))
-        } else {
-            let first = is_unknown(&body.defined, u32::from(first));
-            let second = is_unknown(&body.defined, u32::from(second));
-            first || second
+        let j = self.inputs() + k;
+        let [own, first, second] = body.rows[j];
+        match kind_of(self.header, j) {
+            Kind::Output => is_unknown(&body.defined, u32::from(own)),
+            Kind::Gate => {
+                let first = is_unknown(&body.defined, u32::from(first));
+                let second = is_unknown(&body.defined, u32::from(second));
+                first || second
+            }
+            Kind::Input | Kind::Latch => is_unknown(&body.defined, u32::from(first)),
         }
     }
 
@@ -33,12 +33,11 @@ impl Rest<'_> {
     pub(crate) fn defined(&self, body: &Body) -> Result<(), Refusal>
         ensures { DefinedAs (said self.now.header) body.now.defined body.now.rows result }
     {
-        let h = self.header;
-        for k in 0..h.latches as usize + 1 + h.gates as usize {
+        for k in 0..self.latches() + 1 + self.gates() {
             if self.uses_unknown(body, k) {
                 return Err(Refusal {
                     fault: Fault::NotDefined,
-                    place: 2 + h.inputs as usize + k,
+                    place: 2 + self.inputs() + k,
                 });
             }
         }

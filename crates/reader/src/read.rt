@@ -68,12 +68,10 @@ pub fn read(file: &[u8]) -> Result<Circuit, Refusal>
         });
     }
     let (line, bytes) = file.split_at(line_end(file, 0));
-    let Some(header) = header_line(line) else {
-        return Err(Refusal {
-            fault: Fault::BadHeader,
-            place: 1,
-        });
-    };
+    let header = header_line(line).ok_or(Refusal {
+        fault: Fault::BadHeader,
+        place: 1,
+    })?;
     if !within(header) {
         return Err(Refusal {
             fault: Fault::HeaderLimit,

@@ -22,20 +22,16 @@ impl Rest<'_> {
             .split_inclusive(|b| *b == b'\n')
             .enumerate()
         {
-            match symbol_line(line, self.header, &named) {
-                Ok(None) => return Ok(flags),
-                Ok(Some(symbol)) => {
-                    named[symbol.slot] = 1;
-                    if symbol.controls {
-                        flags[symbol.position] = 1;
-                    }
-                }
-                Err(fault) => {
-                    return Err(Refusal {
-                        fault,
-                        place: first + k,
-                    });
-                }
+            let read = symbol_line(line, self.header, &named).map_err(|fault| Refusal {
+                fault,
+                place: first + k,
+            })?;
+            let Some(symbol) = read else {
+                return Ok(flags);
+            };
+            named[symbol.slot] = 1;
+            if symbol.controls {
+                flags[symbol.position] = 1;
             }
         }
         Ok(flags)

@@ -9,6 +9,7 @@ ghost use Rattle.records.specs.AttackTable.{stored_rank, stored_attack};
 
 use crate::stored;
 use crate::stored::{byte_reply, holds_state, stored_attack, stored_rank};
+use below::behind;
 use circuit::counts::Counts;
 
 // Where region and replies start.
@@ -22,7 +23,7 @@ pub struct Starts {
 pub fn region_bit(certificate: &[u8], region: usize, latches: usize, state: usize) -> bool
     ensures { result ≡ holds_state (drop region certificate.now) latches state }
 {
-    holds_state(tail(certificate, region), latches, state)
+    holds_state(behind(certificate, region), latches, state)
 }
 
 // The reply to a reading at a state, by a byte table: the stored one inside the stored region, 0 outside.
@@ -41,7 +42,7 @@ pub fn reply(
     if !region_bit(certificate, starts.region, latches, state) {
         return 0;
     }
-    let table = tail(certificate, starts.replies);
+    let table = behind(certificate, starts.replies);
     byte_reply(table, latches, readings, state, reading)
 }
 
@@ -61,26 +62,19 @@ pub fn packed_reply(
     if !region_bit(certificate, starts.region, counts.latches, state) {
         return 0;
     }
-    stored::packed_reply(tail(certificate, starts.replies), counts, state, reading)
+    stored::packed_reply(behind(certificate, starts.replies), counts, state, reading)
 }
 
 // The stored rank of a state.
 pub fn rank(certificate: &[u8], table: usize, latches: usize, state: usize) -> u16
     ensures { result ≡ stored_rank (drop table certificate.now) latches state }
 {
-    stored_rank(tail(certificate, table), latches, state)
+    stored_rank(behind(certificate, table), latches, state)
 }
 
 // The stored attack of a state.
 pub fn attack(certificate: &[u8], table: usize, latches: usize, state: usize) -> u8
     ensures { result ≡ stored_attack (drop table certificate.now) latches state }
 {
-    stored_attack(tail(certificate, table), latches, state)
-}
-
-// The bytes from a start on.
-fn tail(certificate: &[u8], start: usize) -> &[u8]
-    ensures { result.now ≡ drop start certificate.now }
-{
-    certificate.get(start..).unwrap_or(&[])
+    stored_attack(behind(certificate, table), latches, state)
 }

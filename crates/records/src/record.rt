@@ -6,7 +6,7 @@ ghost use Rattle.records.specs.RecordAt.{record_at};
 ghost use Rattle.records.specs.CircuitRecord.{circuit_record};
 
 use crate::{HEAD, Kind};
-use below::front;
+use below::{behind, front};
 
 // Where the contents of a record lie.
 #[derive(Clone, Copy, Debug, PartialEq, Eq)]
@@ -20,8 +20,8 @@ impl Span {
     pub fn bytes_of(self, bytes: &[u8]) -> &[u8]
         ensures { result.now ≡ bytes_of self bytes.now }
     {
-        let behind = bytes.get(self.start..).unwrap_or(&[]);
-        front(behind, self.end.saturating_sub(self.start))
+        let size = self.end.saturating_sub(self.start);
+        front(behind(bytes, self.start), size)
     }
 }
 

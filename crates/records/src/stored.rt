@@ -54,7 +54,7 @@ pub fn packed_reply(bytes: &[u8], counts: Counts, state: usize, reading: usize) 
 }
 
 // The reply to a reading at a state, in a table of a kind. Counts above a circuit's limits count as those.
-// The kind stays a number: the promise of this function holds of every number, as `krastopi_reply` of `capi` needs it.
+// The kind stays a number, since the promise holds of every number: one that isn't that of a packed table is read as a byte table.
 #[tactic(auto, unfolding(crate::specs::ReplyTable::stored_reply))]
 pub fn stored_reply(kind: u16, bytes: &[u8], counts: Counts, state: usize, reading: usize) -> u8
     ensures { result ≡ stored_reply kind bytes.now (min counts.latches 10) (min counts.readings 5) (min counts.controls 8) state reading }

@@ -65,7 +65,7 @@ impl<'a> Search<'a> {
         let first = state * n;
         let end = first + n;
         let mut from = first;
-        // Kept as a loop by hand: the next place that failed is known only when the one before was looked on.
+        // Kept as a loop by hand: the places between are passed over in one loop over a lent slice, the solver's tightest.
         while let Some(place) = self.first_failed(from, end) {
             if self.look_on(place).is_none() {
                 return Some(place - first);
@@ -124,16 +124,20 @@ impl<'a> Search<'a> {
         ensures kept { self.new.kept.now ≡ self.old.kept.now }
         ensures found { MoveFrom self.old.net.now (set_of self.old.set) from end result }
     {
-        let mut from = from;
-        // Kept as a loop by hand: it steps to the ends of blocks, and a range of blocks has one more where nothing is left of the last.
-        while from < end {
-            let next = end.min(from / 64 * 64 + 64);
+        if from == end {
+            return None;
+        }
+        for block in from / 64..end.div_ceil(64) {
             if let Some(found) = keeping_in(
-                self.net, self.set, self.words, self.slots, from, next,
+                self.net,
+                self.set,
+                self.words,
+                self.slots,
+                from.max(64 * block),
+                end.min(64 * block + 64),
             ) {
                 return Some(found);
             }
-            from = next;
         }
         None
     }

@@ -48,8 +48,7 @@ fn slot_of(net: &[u16], block: usize, n: usize) -> usize
     requires { 0 < n }
     ensures { result < n }
 {
-    let i = place_of(net, block);
-    if i < n { i } else { i % n }
+    place_of(net, block) % n
 }
 
 // The place of a block, where a place has several; else the block itself.

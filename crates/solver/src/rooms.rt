@@ -3,8 +3,9 @@ ghost use Rattle.std.specs.Prelude.{◌*◌, ◌^◌, ◌<◌, ◌≤◌, ◌≡
 ghost use Rattle.circuit.specs.Limits.{base};
 ghost use Rattle.game.specs.NetGame.{net_game};
 ghost use Rattle.net.specs.InOrder.{InOrder};
+ghost use Rattle.net.specs.Sized.{Sized};
 ghost use Rattle.solver.specs.Solution.{solution_of};
-ghost use Rattle.solver.specs.Inner.Moves.{Small, places};
+ghost use Rattle.solver.specs.Inner.Moves.{places};
 ghost use Rattle.solver.specs.Inner.SolvableNet.{solvable_net};
 
 use crate::Solution;
@@ -49,7 +50,7 @@ pub(crate) fn solve_net(net: &[u16]) -> Solution
 fn solvable(net: &[u16]) -> &[u16]
     requires { InOrder net.now }
     ensures value { result.now ≡ solvable_net net.now }
-    ensures small { Small result.now }
+    ensures sized { Sized result.now }
 {
     if too_many(counts::readings(net), counts::controls(net)) {
         &EMPTY
@@ -62,7 +63,7 @@ fn solvable(net: &[u16]) -> &[u16]
 // since the pages of a frame are touched when it is entered.
 #[inline(never)]
 fn solve_within<const PLACES: usize, const SLOTS: usize>(net: &[u16]) -> Solution
-    requires small { Small net.now }
+    requires sized { Sized net.now }
     requires enough { places net.now ≤ PLACES }
     requires some { 0 < SLOTS }
     requires few_places { PLACES ≤ 2 ^ base.latches * 2 ^ base.uncontrollable }

@@ -2,14 +2,15 @@
 ghost use Rattle.std.specs.Prelude.{◌*◌, ◌^◌, ◌≤◌, ◌≡◌};
 ghost use Rattle.circuit.specs.Limits.{base};
 ghost use Rattle.net.specs.Net.{net_controls, net_readings, net_latches};
-ghost use Rattle.solver.specs.Inner.Moves.{Small, places};
+ghost use Rattle.net.specs.Sized.{Sized};
+ghost use Rattle.solver.specs.Inner.Moves.{places};
 
 use circuit::counts::numbers;
 use net::counts;
 
 #[tactic(auto, using(crate::proofs::Laws::Moves::few_states))]
 pub(crate) fn states(net: &[u16]) -> usize
-    requires { Small net.now }
+    requires { Sized net.now }
     ensures value { result ≡ 2 ^ net_latches net.now }
     ensures few { result ≤ 2 ^ base.latches }
 {
@@ -18,7 +19,7 @@ pub(crate) fn states(net: &[u16]) -> usize
 
 #[tactic(auto, using(crate::proofs::Laws::Moves::few_readings_lem))]
 pub(crate) fn readings(net: &[u16]) -> usize
-    requires { Small net.now }
+    requires { Sized net.now }
     ensures value { result ≡ 2 ^ net_readings net.now }
     ensures few { result ≤ 2 ^ base.uncontrollable }
 {
@@ -26,7 +27,7 @@ pub(crate) fn readings(net: &[u16]) -> usize
 }
 
 pub(crate) fn controls(net: &[u16]) -> usize
-    requires { Small net.now }
+    requires { Sized net.now }
     ensures value { result ≡ 2 ^ net_controls net.now }
     ensures few { result ≤ 2 ^ base.controllable }
 {
@@ -36,7 +37,7 @@ pub(crate) fn controls(net: &[u16]) -> usize
 // A place is a state and a reading.
 #[tactic(auto, unfolding(crate::specs::Inner::Moves::places))]
 pub(crate) fn places(net: &[u16]) -> usize
-    requires { Small net.now }
+    requires { Sized net.now }
     ensures value { result ≡ places net.now }
     ensures few { result ≤ 2 ^ base.latches * 2 ^ base.uncontrollable }
 {

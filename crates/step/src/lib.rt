@@ -10,7 +10,7 @@ ghost use Rattle.step.specs.Step.{step as step_of};
 use circuit::{Circuit, Lent};
 use truths::Values;
 
-// What the uncontrollable and the controllable inputs say; taken apart only inside the step.
+// What the uncontrollable and the controllable inputs say; taken apart only in a step, and where a move is made.
 #[derive(Clone, Copy, Debug, PartialEq, Eq)]
 pub struct Reading(pub u8);
 
@@ -31,8 +31,8 @@ pub fn step(c: Circuit, state: u16, reading: Reading, control: Control) -> Stepp
     step_lent(c.lent(), state, reading, control)
 }
 
-// A step over lent arrays: bits of state, reading and control above the circuit's counts aren't read. It alone takes a reading and a
-// control apart.
+// A step over lent arrays: bits of state, reading and control above the circuit's counts aren't read. Here a reading and a control
+// are taken apart.
 #[tactic(auto, using(crate::proofs::Laws::Step::step_is))]
 pub fn step_lent(circuit: Lent<'_>, state: u16, reading: Reading, control: Control) -> Stepped
     ensures { result ≡ step_of (meant_lent circuit.entry) state reading.0 control.0 }

@@ -44,7 +44,7 @@ impl<'a> View<'a> {
     {
         let starts = Starts {
             region: self.region,
-            replies: self.replies, // one byte each
+            replies: self.replies, // where a byte table starts
         };
         reply(self.certificate, starts, latches, readings, state, reading)
     }

@@ -5,9 +5,8 @@ use native.Mathlib.Omega.{arith}
 use mathlib.Core.List.{List, map}
 use mathlib.Core.Path.{◌≡◌, sym, ap, subst, ◌∙◌}
 use lib.ListN.{length, get_or, take, drop, length-take, length-drop}
-use lib.Seq.{get_or-take, get_or-drop, drop-drop, take_all}
+use lib.Seq.{get_or-take, get_or-drop, drop-drop}
 use Rattle.std.specs.Int.{from_bool}
-use Rattle.std.proofs.lemmas.List.{drop_min}
 use Rattle.below.specs.Table.{table}
 use Rattle.below.proofs.Laws.Table.{table_same, table_get_or, map_table}
 use Rattle.bits.specs.Bit.{one_if}
@@ -35,15 +34,9 @@ module _ (net : List ℕ) where
   first_gate-moved = omega arith
 
   -- the operands stand behind the next-state literals
-  pub operands_from : take (length net - min (4 + net_latches net) (length net)) (drop (min (4 + net_latches net) (length net)) net) ≡ net_operands net
+  pub operands_from : drop (4 + net_latches net) net ≡ net_operands net
   unfolding net_operands
-  operands_from =
-      take_all (length net - start) (drop start net) (omega (arith, length-drop start net))
-      ∙ drop_min (4 + net_latches net) net
-      ∙ sym (drop-drop (net_latches net) 4 net)
-    where
-      start : ℕ
-      start = min (4 + net_latches net) (length net)
+  operands_from = sym (drop-drop (net_latches net) 4 net)
 
   pub nexts_counted : min (min (net_latches net) base.latches) (length net - 4) ≡ min base.latches (length (net_nexts net))
   unfolding net_nexts

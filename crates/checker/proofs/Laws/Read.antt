@@ -15,7 +15,7 @@ use Rattle.net.specs.declared.Net.{Net}
 use Rattle.net.proofs.Laws.InOrder.{Room}
 use Rattle.net.proofs.Laws.Lent.{lent_net, lent_in_order}
 use Rattle.checker.specs.Inner.FileNet.{FileNet}
-use Rattle.checker.specs.Inner.Sized.{Sized}
+use Rattle.net.specs.Sized.{Sized}
 use Rattle.checker.proofs.Laws.Counted.{net_readings_are, net_controls_are}
 
 module _ (file : List ℕ) (v : Value) (means : Means file v) (room : Room (meant v)) (made : Net) (is : MadeAs (net_of (meant v)) made) (net : List ℕ)

@@ -67,7 +67,8 @@ module _ (words : List ℕ) (j : ℕ) where
 
     word_is : word ≡ get_or words (taken.left - 1) 0
     word_is = turn.1 ∙ get_or-reverse (take base.latches words) k word (omega (arith, long, taken.all, some))
-        ∙ ap (λ (i : ℕ). get_or (take base.latches words) i word) {x = length (take base.latches words) - 1 - k} {y = taken.left - 1} (omega (arith, long, taken.all))
+        ∙ ap (λ (i : ℕ). get_or (take base.latches words) i word) {x = length (take base.latches words) - 1 - k} {y = taken.left - 1}
+        (omega (arith, long, taken.all))
         ∙ get_or_default_zero (take base.latches words) (taken.left - 1) word (omega (arith, long, taken.all, some))
         ∙ get_or-take base.latches words (taken.left - 1) 0 (omega (arith, some, taken.all))
 

@@ -11,13 +11,13 @@ use Rattle.circuit.specs.Fault.{number_of}
 use Rattle.circuit.specs.declared.numbers.Fault.{Fault}
 use Rattle.circuit.specs.declared.numbers.Fault.TheVariants.{BadLine}
 use Rattle.circuit.specs.Literal.{may_define, too_large}
-use Rattle.fields.specs.Inner.Marks.{marked, Marks}
+use Rattle.fields.specs.Inner.Marks.{marked, Marks, number_if}
 use Rattle.fields.specs.Inner.RowAt.{IsRow}
 use Rattle.fields.proofs.Laws.Judged.{judged_malformed, judged_fine, judged_faulty, not_five, neither, literal_below, input_fault}
 use Rattle.fields.proofs.Laws.Judged.{latch_fault, output_fault, gate_fault}
 use Rattle.lines.specs.Inner.Kinds.{rule_of, form_of, fault_of}
 use Rattle.lines.specs.Inner.LinedAs.{Literals, LinedAs}
-use Rattle.std.specs.Prelude.{Ok, Err}
+use Rattle.std.specs.Prelude.{Option as Found, Some, None, Result, Ok, Err, MatchOption}
 use Rattle.lines.specs.declared.kind.Kind.{Kind}
 use Rattle.lines.specs.declared.kind.Kind.TheVariants.{Input, Latch, Output, Gate}
 use Rattle.text.specs.Line.{numbers_of}
@@ -135,16 +135,23 @@ module _ (k : Kind) (M : ℕ) (marks line : List ℕ) (n : ℕ) (numbers : List 
   are : numbers_of (rule_of k M).count line ≡ some (take (rule_of k M).count three)
   are = subst (λ (m : ℕ). numbers_of m line ≡ some (take m numbers)) count-is row.is ∙ ap some (front (rule_of k M).count numbers row.five few)
 
-  pub kind_faulty : (fault : Fault) → some (number_of fault) ≡ fault_of (form_of k) M marks (get_or numbers 0 0) (get_or numbers 1 0) (get_or numbers 2 0)
+  kind_faulty : (fault : Fault) → some (number_of fault) ≡ fault_of (form_of k) M marks (get_or numbers 0 0) (get_or numbers 1 0) (get_or numbers 2 0)
       → LinedAs M (rule_of k M) marks line (Err fault)
   kind_faulty fault says defined place m =
       judged_faulty (rule_of k M) defined place (numbers_of (rule_of k M).count line) (take (rule_of k M).count three) are (number_of fault)
       (kind_fault M marks k defined m _ _ _ others ∙ sym says)
 
-  pub kind_row : fault_of (form_of k) M marks (get_or numbers 0 0) (get_or numbers 1 0) (get_or numbers 2 0) ≡ none
+  kind_row : fault_of (form_of k) M marks (get_or numbers 0 0) (get_or numbers 1 0) (get_or numbers 2 0) ≡ none
       → LinedAs M (rule_of k M) marks line (Ok three)
   kind_row z = (
     λ defined place m. judged_fine (rule_of k M) defined place (numbers_of (rule_of k M).count line) (take (rule_of k M).count three) are
         (kind_fault M marks k defined m _ _ _ others ∙ z),
     kind_below M marks k _ _ _ others z,
   )
+
+  -- by what its literals call for
+  pub kind_told : (o : Found Fault) (r : Result (List ℕ) Fault)
+      → number_if o ≡ fault_of (form_of k) M marks (get_or numbers 0 0) (get_or numbers 1 0) (get_or numbers 2 0)
+      → MatchOption o (r ≡ Ok three) (λ fault. r ≡ Err fault) → LinedAs M (rule_of k M) marks line r
+  kind_told None r says e = subst (LinedAs M (rule_of k M) marks line) (sym e) (kind_row (sym says))
+  kind_told (Some fault) r says e = subst (LinedAs M (rule_of k M) marks line) (sym e) (kind_faulty fault says)

@@ -3,19 +3,24 @@ use Prim.Native.Nat.{ℕ, zero, suc, ◌+◌, ◌<◌, ◌≤◌}
 use native.Mathlib.Omega.{arith}
 use mathlib.Core.Bool.{Bool, true, false, cond, ◌&&◌, true≢false}
 use mathlib.Core.List.{List, [], ◌∷◌}
-use mathlib.Core.Option.{none}
+use mathlib.Core.Option.{Option, none}
 use mathlib.Core.Path.{◌≡◌, refl, sym, ap, ap₂, ◌∙◌, subst}
 use lib.Dec.{eqb}
 use lib.ListN.{length, get_or, drop}
 use lib.Seq.{drop-drop, drop-cons}
 use borrow.Author.Tests.{eq-eqb, eqb-true, lt-ltb, le-ltb}
 use Rattle.bits.specs.Bytes.{starts_with}
+use Rattle.circuit.specs.declared.numbers.Fault.{Fault}
+use Rattle.circuit.specs.declared.numbers.Fault.TheVariants.{BadSymbol}
+use Rattle.lines.specs.declared.symbol.Symbol.{Symbol as Value}
+use Rattle.std.specs.Option.{ok_or}
+use Rattle.std.specs.Prelude.{Option as Found, Some, None, Result, Ok, MatchOption, IsSomeAnd}
 use Rattle.text.specs.Header.{Header}
 use Rattle.text.specs.Number.{is, bad, number, run}
-use Rattle.text.specs.Symbol.{Symbol, input_letter, prefix, is_name_byte, names, positions, symbol_at, symbol_of, is_controllable_name}
+use Rattle.text.specs.Symbol.{Symbol, input_letter, prefix, is_name_byte, names, positions, symbol_at, symbol_of, is_comment, is_controllable_name}
 use Rattle.lines.specs.Inner.Named.{Named, slot_of}
 use Rattle.fields.specs.Inner.WellNamed.{well_named}
-use Rattle.lines.specs.Inner.SymboledAs.{IsSymbol}
+use Rattle.lines.specs.Inner.SymboledAs.{IsSymbol, SymbolAt, SymbolAs}
 use Rattle.fields.proofs.Laws.Truth.{and_true}
 
 -- each byte of a string passes
@@ -50,7 +55,7 @@ module _ (h : Header) (seen : List Symbol) (line : List ℕ) (nonempty : 0 < len
   unfolding symbol_of
   symbol_unnumbered e = subst (λ (l : List ℕ). symbol_of h seen l ≡ none) (sym (drop-cons line 0 0 nonempty)) (rw (e, symbol_of))
 
-  pub symbol_numbered : (position next : ℕ) → number (drop 1 line) ≡ is position (drop next line)
+  symbol_numbered : (position next : ℕ) → number (drop 1 line) ≡ is position (drop next line)
       → symbol_of h seen line ≡ symbol_at h seen (get_or line 0 0) position (drop next line)
   unfolding symbol_of
   symbol_numbered position next e = subst (λ (l : List ℕ). symbol_of h seen l ≡ symbol_at h seen (get_or line 0 0) position (drop next line))
@@ -60,6 +65,19 @@ pub symbol_empty : (h : Header) (seen : List Symbol) (line : List ℕ) → lengt
 unfolding symbol_of
 symbol_empty h seen [] e = refl
 symbol_empty h seen (b ∷ l) e = absurd (omega arith)
+
+-- by what stands behind its letter and number
+pub symbol_told : (h : Header) (marks line : List ℕ) → is_comment line ≡ false → 0 < length line → (position next : ℕ)
+    → number (drop 1 line) ≡ is position (drop next line) → (o : Found Value) → SymbolAt h marks (get_or line 0 0) position (drop next line) o
+    → (p : Found (Found Value)) → MatchOption o (p ≡ None) (λ v. IsSomeAnd p (λ w. w ≡ Some v)) → (r : Result (Found Value) Fault) → r ≡ ok_or p BadSymbol
+    → SymbolAs h marks line r
+symbol_told h marks line bare nonempty position next n None at p e r f =
+    subst (SymbolAs h marks line) (sym (f ∙ ap (λ (q : Found (Found Value)). ok_or q BadSymbol) e))
+    (bare, refl, λ seen says. symbol_numbered h seen line nonempty position next n ∙ at seen says)
+symbol_told h marks line bare nonempty position next n (Some v) at None e r f = absurd e
+symbol_told h marks line bare nonempty position next n (Some v) at (Some w) e r f =
+    subst (SymbolAs h marks line) (sym (f ∙ ap {B = Result (Found Value) Fault} Ok e))
+    (bare, λ seen says. subst (λ (o : Option Symbol). IsSymbol h o v) (sym (symbol_numbered h seen line nonempty position next n)) (at seen says))
 
 module _ (h : Header) (marks : List ℕ) (letter position : ℕ) (line : List ℕ) (next : ℕ) (seen : List Symbol) (says : Named h marks seen) where
   pub badly_named : well_named (drop next line) ≡ false → symbol_at h seen letter position (drop next line) ≡ none

@@ -88,7 +88,8 @@ module _ (h : Header) (bytes : List ℕ) where
       unfolding outcome_of
       known = so_far ∙ rw (sym (d w.defined w.says))
 
-      pub circle_refused : (x : Refusal) (r : Result Value Refusal) → circled (3 + h.inputs + h.latches) (row_gates h b.rows) ≡ refused (number_of x.fault) x.place
+      pub circle_refused : (x : Refusal) (r : Result Value Refusal) → circled (3 + h.inputs + h.latches) (row_gates h b.rows)
+          ≡ refused (number_of x.fault) x.place
           → r ≡ Err x → ReadAs outcome r
       unfolding circuit_of_lines
       circle_refused x r e =

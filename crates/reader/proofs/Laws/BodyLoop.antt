@@ -192,7 +192,8 @@ module _ (h : Header) (bytes : List ℕ) (few : Few h) (marks : List ℕ) (rows 
     looping_refuses fault faulty =
         next
         ∙ ap (λ o. o >>= λ fs. lined (rule_at h) (suc j) (line_count h - suc j) (with_row (rule_at h j) body fs))
-        (subst (λ (q : Kind). judged (rule_of q h.largest) w.defined (2 + j) (numbers_of (rule_of q h.largest).count line) ≡ refused (number_of fault) (2 + j)) is
+        (subst (λ (q : Kind). judged (rule_of q h.largest) w.defined (2 + j) (numbers_of (rule_of q h.largest).count line)
+        ≡ refused (number_of fault) (2 + j)) is
         (faulty w.defined (2 + j) w.says))
 
     module _ (row : List ℕ) (fine : LinedAs h.largest (rule_of k h.largest) marks line (Ok row)) where
@@ -230,14 +231,16 @@ module _ (h : Header) (bytes : List ℕ) (few : Few h) (marks : List ℕ) (rows 
       unfolding fs
       new = subst (λ (q : Kind). cond (rule_of q h.largest).defines (variable (get_or (take (rule_of q h.largest).count row) 0 0) ∷ [])
           [] ≡ news k (get_or row 0 0)) is
-          (subst (λ (r : List ℕ). cond (rule_of k h.largest).defines (variable (get_or (take (rule_of k h.largest).count r) 0 0) ∷ []) [] ≡ news k (get_or row 0 0))
+          (subst (λ (r : List ℕ). cond (rule_of k h.largest).defines (variable (get_or (take (rule_of k h.largest).count r) 0 0) ∷ []) []
+          ≡ news k (get_or row 0 0))
           (sym (three_cells row fine.1.three)) (news_own k h.largest (get_or row 0 0) (get_or row 1 0) (get_or row 2 0)))
 
       literals_more : (i which : ℕ) → cell (set rows j row) i which < 2 * base.variable + 2
       unfolding cell
       literals_more i which = elim (ℕ_discrete i j) [
         | yes e ↦ subst (λ (m : ℕ). get_or (get_or (set rows j row) m []) which 0 < 2 * base.variable + 2) (sym e)
-            (subst (λ (r : List ℕ). get_or r which 0 < 2 * base.variable + 2) (sym (get_or-set_same rows j row [] row_below)) (omega (arith, fine.1.each which, few.largest)))
+            (subst (λ (r : List ℕ). get_or r which 0 < 2 * base.variable + 2) (sym (get_or-set_same rows j row [] row_below))
+            (omega (arith, fine.1.each which, few.largest)))
         | no d ↦ subst (λ (r : List ℕ). get_or r which 0 < 2 * base.variable + 2) (sym (get_or-set_other rows j i row [] d)) (w.literals i which)
       ]
 

@@ -8,8 +8,8 @@ use mathlib.Core.Bool.{Bool, true, false, cond, true≢false}
 use mathlib.Core.List.{List, [], ◌∷◌, ◌++◌, flat_map, append_assoc}
 use mathlib.Core.Path.{◌≡◌, refl, sym, ap, ap₂, ◌∙◌, subst}
 use lib.Dec.{eqb, ltb}
-use lib.ListN.{length, get_or, take, set, length-set}
-use lib.Seq.{get_or-set_same, get_or-set_other, get_or-take, ext_get_or, length-take-le}
+use lib.ListN.{length, get_or, take, drop, set, length-set}
+use lib.Seq.{get_or-set_same, get_or-set_other, get_or-take, get_or-drop, ext_get_or, length-take-le}
 use borrow.Author.Tests.{lt-ltb, le-ltb, eq-eqb, ne_eqb}
 use Rattle.std.specs.Prelude.{Option, Some, None, is_some, unwrap_or}
 use Rattle.below.specs.Least.{least}
@@ -23,6 +23,11 @@ use Rattle.circuit.specs.Literal.{variable, constant}
 use Rattle.reader.specs.Inner.Definers.{first_that, defines, Definers, definer_in, operand_at}
 use Rattle.reader.specs.Inner.Rows.{cell, gate_on}
 use Rattle.text.specs.GateUses.{definer, uses_of}
+
+-- a number of one of n rows from a start on
+pub cell_part : (rows : List (List ℕ)) (start n j which : ℕ) → j < n → cell (take n (drop start rows)) j which ≡ cell rows (start + j) which
+unfolding cell
+cell_part rows start n j which h = ap (λ (r : List ℕ). get_or r which 0) (get_or-take n (drop start rows) j [] h ∙ get_or-drop start rows j [])
 
 -- one gate more: the first that passes stays
 or_here : Bool → ℕ → Option ℕ → Option ℕ
@@ -106,7 +111,8 @@ module _ (rows : List (List ℕ)) (start : ℕ) where
 
         at : (u : ℕ) → u < length definers → get_or definers u None ≡ first_that (defines rows start u) (suc j)
         at u h = elim (ℕ_discrete v u) [
-          | yes e ↦ subst (λ (x : ℕ). get_or definers x None ≡ first_that (defines rows start x) (suc j)) e (here (subst (λ (x : ℕ). x < length definers) (sym e) h))
+          | yes e ↦ subst (λ (x : ℕ). get_or definers x None ≡ first_that (defines rows start x) (suc j)) e
+              (here (subst (λ (x : ℕ). x < length definers) (sym e) h))
           | no d ↦ other u h d
         ]
 

@@ -55,7 +55,8 @@ module _ (h : Header) (rows : List (List ℕ)) where
   unfolding circled refuse_if
   circled_none place e = rw (many, e, le-ltb h.gates h.gates (omega arith))
 
-  circled_lowest : (place : ℕ) → lowest_circle graph h.gates < h.gates → circled place (row_gates h rows) ≡ refused gate_circle (place + lowest_circle graph h.gates)
+  circled_lowest : (place : ℕ) → lowest_circle graph h.gates < h.gates
+      → circled place (row_gates h rows) ≡ refused gate_circle (place + lowest_circle graph h.gates)
   unfolding circled refuse_if
   circled_lowest place l = rw (many, lt-ltb (lowest_circle graph h.gates) h.gates l)
 
@@ -71,7 +72,8 @@ module _ (h : Header) (rows : List (List ℕ)) where
     says : answer_of lent (gates_in lent marks order) ≡ answer_of graph h.gates
     says = λ x. answer_of (are x) (all x)
 
-    pub in_order : (u : Unit {0}) (after : List ℕ) → Ok u ≡ answer_of lent (gates_in lent marks order) → after ≡ places_after lent marks order → AllPlaced h rows after
+    pub in_order : (u : Unit {0}) (after : List ℕ) → Ok u ≡ answer_of lent (gates_in lent marks order) → after ≡ places_after lent marks order
+        → AllPlaced h rows after
     unfolding answer_of evaluation
     in_order u after answer places = elim (dec_lt (lowest_circle graph h.gates) h.gates) [
       | yes l ↦ let no : Ok u ≡ Err (lowest_circle graph h.gates) = answer ∙ says ∙ rw (lt-ltb (lowest_circle graph h.gates) h.gates l) in cc

@@ -71,7 +71,8 @@ module _ (f : ℕ → Bool) where
   byte_below n j = subst (λ (m : ℕ). bit_byte f n j < 2 ^ m) (eight_long n j) (sum_below 2 (eight n j) (eight_small n j))
 
   byte_none : (j : ℕ) → 0 ≡ bit_byte f 0 j
-  byte_none j = bits_decide 8 0 (bit_byte f 0 j) (omega arith) (byte_below 0 j) (λ k h. bit_high 0 k (pow_pos k) ∙ sym (bit_of_byte 0 j k h ∙ bit_none (8 * j + k)))
+  byte_none j = bits_decide 8 0 (bit_byte f 0 j) (omega arith) (byte_below 0 j)
+      (λ k h. bit_high 0 k (pow_pos k) ∙ sym (bit_of_byte 0 j k h ∙ bit_none (8 * j + k)))
 
   byte_other : (n j : ℕ) → (j ≡ n / 8 → ⊥) → bit_byte f n j ≡ bit_byte f (n + 1) j
   unfolding bit_byte state_bit
@@ -113,7 +114,8 @@ module _ (f : ℕ → Bool) where
 
       at : (j : ℕ) → j < bytes → get_or (set before (n / 8) byte) j 0 ≡ get_or (table (bit_byte f (n + 1)) bytes) j 0
       at j l = elim (ℕ_discrete j (n / 8)) [
-        | yes e ↦ rw e (get_or-set_same before (n / 8) byte 0 (omega (arith, long n)) ∙ here ∙ sym (get_or_table (bit_byte f (n + 1)) bytes (n / 8) 0 (omega arith)))
+        | yes e ↦ rw e (get_or-set_same before (n / 8) byte 0 (omega (arith, long n)) ∙ here
+            ∙ sym (get_or_table (bit_byte f (n + 1)) bytes (n / 8) 0 (omega arith)))
         | no d ↦ get_or-set_other before (n / 8) j byte 0 d ∙ get_or_table (bit_byte f n) bytes j 0 l ∙ byte_other n j d
             ∙ sym (get_or_table (bit_byte f (n + 1)) bytes j 0 l)
       ]
@@ -121,7 +123,8 @@ module _ (f : ℕ → Bool) where
   -- those behind the last that a circuit may have aren't there
   pub region_all : (states : ℕ) → region_table f (min states (2 ^ base.latches)) ≡ region_table f states
   unfolding region_table bit_byte
-  region_all states = table_same _ _ bytes (λ j h. ap (sum 2) (table_same _ _ 8 (λ k l. ap (λ (b : Bool). one_if (b && f (8 * j + k))) (same (8 * j + k) (omega arith)))))
+  region_all states = table_same _ _ bytes (λ j h. ap (sum 2) (table_same _ _ 8 (λ k l. ap (λ (b : Bool). one_if (b && f (8 * j + k)))
+      (same (8 * j + k) (omega arith)))))
     where
       same : (i : ℕ) → i < 2 ^ base.latches → ltb i (min states (2 ^ base.latches)) ≡ ltb i states
       same i h = elim (dec_lt i states) [

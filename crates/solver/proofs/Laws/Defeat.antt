@@ -97,7 +97,8 @@ module _ (net : List ℕ) (ranks : ℕ → ℕ) (k s u : ℕ) (state : s < 2 ^ n
   module _ (p : ℕ) (passed : Passed net ranks k s u p) (more : p < s * u + u) where
     decides : (m : ℕ) → m ≡ least (place_keeps net set p) (2 ^ net_controls net)
         → leb (2 ^ net_controls net) m ≡ defeats (net_game net) ranks k s (p - s * u)
-    decides m found = defeats-place net ranks k s (p - s * u) m (2 ^ net_controls net) u state (omega (arith, passed.started)) wide refl (found ∙ ap at_place back)
+    decides m found = defeats-place net ranks k s (p - s * u) m (2 ^ net_controls net) u state (omega (arith, passed.started)) wide refl
+        (found ∙ ap at_place back)
       where
         at_place : ℕ → ℕ
         at_place x = least (place_keeps net set x) (2 ^ net_controls net)

@@ -26,10 +26,11 @@ use Rattle.keeping.specs.RankList.{ranks_in}
 use Rattle.keeping.specs.declared.lane.Found.{Found}
 use Rattle.keeping.specs.declared.rank_list.KeptControl.{KeptControl}
 use Rattle.net.specs.Net.{net_controls, net_error, net_next}
+use Rattle.net.specs.Sized.{Sized}
 use Rattle.solver.specs.RankTable.{round_table}
 use Rattle.solver.specs.Inner.Answers.{LeastBelow, MoveFrom}
 use Rattle.solver.specs.Inner.Kept.{KeptAt, Kept, Behind}
-use Rattle.solver.specs.Inner.Moves.{Small, move_keeps, place_keeps, places}
+use Rattle.solver.specs.Inner.Moves.{move_keeps, place_keeps, places}
 use Rattle.solver.specs.Inner.Planes.{slot_at, HeldAt, AllHeld}
 use Rattle.solver.specs.declared.planes.Slot.{Slot}
 
@@ -148,12 +149,12 @@ module _ (net : List ℕ) (set : ℕ → Bool) (kept : List KeptControl) (slots 
 
   -- other planes
   pub kept_held : (others : List Slot) → 0 < length others → AllHeld net others → Kept net set kept others
-  kept_held others some held = record { small = all.small; long = all.long; some = some; held = held; at = all.at }
+  kept_held others some held = record { sized = all.sized; long = all.long; some = some; held = held; at = all.at }
 
   -- another control at a place
   pub kept_put : (p : ℕ) (control : KeptControl) → p < places net → KeptAt net set p control → Kept net set (lib.ListN.set kept p control) slots
   kept_put p control h new = record {
-    small = all.small;
+    sized = all.sized;
     long = omega (arith, all.long, length-set kept p control);
     some = all.some;
     held = all.held;
@@ -168,7 +169,7 @@ module _ (net : List ℕ) (set : ℕ → Bool) (kept : List KeptControl) (slots 
 
   -- where the set loses states alone, what failed fails again
   pub kept_later : (other : ℕ → Bool) → ((t : ℕ) → set t ≡ false → other t ≡ false) → Kept net other kept slots
-  kept_later other fewer = record { small = all.small; long = all.long; some = all.some; held = all.held; at = at }
+  kept_later other fewer = record { sized = all.sized; long = all.long; some = all.some; held = all.held; at = at }
     where
       at : (p : ℕ) → p < places net → KeptAt net other p (get_or kept p nothing)
       at p h = let a = all.at p h in record {
@@ -215,10 +216,11 @@ kept_next g states net k ranks after kept slots all long e =
         is_ranked (ranks_in after) (k + 1) t (omega (arith, same, r.0)) (omega (arith, same, r.1))
 
 -- before the first look nothing is kept
-pub kept_start : (net : List ℕ) (set : ℕ → Bool) (n m : ℕ) (kept : List KeptControl) (slot : Slot) (slots : List Slot) → Small net
-    → kept ≡ table (λ i. nothing) n → length slot.next ≡ base.latches → slot.mark ≡ 0 → slots ≡ table (λ i. slot) m → places net ≤ n → 0 < m → Kept net set kept slots
-kept_start net set n m kept slot slots small e l z f enough some = record {
-  small = small;
+pub kept_start : (net : List ℕ) (set : ℕ → Bool) (n m : ℕ) (kept : List KeptControl) (slot : Slot) (slots : List Slot) → Sized net
+    → kept ≡ table (λ i. nothing) n → length slot.next ≡ base.latches → slot.mark ≡ 0 → slots ≡ table (λ i. slot) m → places net ≤ n
+    → 0 < m → Kept net set kept slots
+kept_start net set n m kept slot slots sized e l z f enough some = record {
+  sized = sized;
   long = omega (arith, ap length e ∙ length_table {A = KeptControl} (λ i. nothing) n);
   some = omega (arith, long);
   held = record { at = held };

@@ -20,8 +20,9 @@ use Rattle.game.specs.Keeps.{keeps, answered}
 use Rattle.game.specs.Rank.{not_ranked, defeats}
 use Rattle.net.specs.Move.{move_of}
 use Rattle.net.specs.Net.{net_controls, net_readings, net_latches, net_step}
+use Rattle.net.specs.Sized.{Sized}
 use Rattle.solver.specs.Inner.Answers.{LeastBelow}
-use Rattle.solver.specs.Inner.Moves.{Small, move_keeps, place_keeps, places}
+use Rattle.solver.specs.Inner.Moves.{move_keeps, place_keeps, places}
 use Rattle.game.specs.NetGame.{net_move, net_game}
 
 module _ (net : List ℕ) (set : ℕ → Bool) (s r : ℕ) (state : s < 2 ^ net_latches net) (reading : r < 2 ^ net_readings net) where
@@ -78,16 +79,16 @@ module _ (net : List ℕ) (p : ℕ) (within : p < places net) where
       → LeastBelow (keeps (net_game net) set (p / 2 ^ net_readings net) (p % 2 ^ net_readings net)) (2 ^ net_controls net) found
   found_keeps set found got = record { least = got.least ∙ least_place set; within = got.within }
 
--- a small net has no more states, readings and controls than a circuit may have
-module _ (net : List ℕ) (small : Small net) where
+-- a sized net has no more states, readings and controls than a circuit may have
+module _ (net : List ℕ) (sized : Sized net) where
   pub few_states : 2 ^ net_latches net ≤ 2 ^ base.latches
-  few_states = pow_mono {i = net_latches net} {j = base.latches} small.order.states
+  few_states = pow_mono {i = net_latches net} {j = base.latches} sized.order.states
 
   pub few_readings_lem : 2 ^ net_readings net ≤ 2 ^ base.uncontrollable
-  few_readings_lem = pow_mono {i = net_readings net} {j = base.uncontrollable} small.readings
+  few_readings_lem = pow_mono {i = net_readings net} {j = base.uncontrollable} sized.few_readings
 
   pub few_controls_lem : 2 ^ net_controls net ≤ 2 ^ base.controllable
-  few_controls_lem = pow_mono {i = net_controls net} {j = base.controllable} small.controls
+  few_controls_lem = pow_mono {i = net_controls net} {j = base.controllable} sized.few_controls
 
   pub few_places : places net ≤ 2 ^ base.latches * 2 ^ base.uncontrollable
   unfolding places
@@ -109,11 +110,11 @@ module _ (net : List ℕ) (small : Small net) where
   -- how many there are, by the numbers of the net
   pub controls_are_lem : (n : ℕ) → n ≡ get_or net 0 0 → 2 ^ min n base.latches ≡ 2 ^ net_controls net
   unfolding net_controls
-  controls_are_lem n e = ap (λ (m : ℕ). 2 ^ m) {x = min n base.latches} {y = net_controls net} (omega (arith, small.controls))
+  controls_are_lem n e = ap (λ (m : ℕ). 2 ^ m) {x = min n base.latches} {y = net_controls net} (omega (arith, sized.few_controls))
 
   pub readings_are_lem : (n : ℕ) → n ≡ get_or net 1 0 → 2 ^ min n base.latches ≡ 2 ^ net_readings net
   unfolding net_readings
-  readings_are_lem n e = ap (λ (m : ℕ). 2 ^ m) {x = min n base.latches} {y = net_readings net} (omega (arith, small.readings))
+  readings_are_lem n e = ap (λ (m : ℕ). 2 ^ m) {x = min n base.latches} {y = net_readings net} (omega (arith, sized.few_readings))
 
   pub states_are_lem : (n : ℕ) → n ≡ net_latches net → 2 ^ min n base.latches ≡ 2 ^ net_latches net
-  states_are_lem n e = ap (λ (m : ℕ). 2 ^ m) {x = min n base.latches} {y = net_latches net} (omega (arith, small.order.states))
+  states_are_lem n e = ap (λ (m : ℕ). 2 ^ m) {x = min n base.latches} {y = net_latches net} (omega (arith, sized.order.states))

@@ -16,7 +16,7 @@ use Rattle.net.specs.Net.{net_controls, net_latches, net_nexts, net_next, net_st
 use Rattle.step.specs.Value.{literal_value}
 use Rattle.step.proofs.Laws.Truths.{one_if-bit}
 use Rattle.solver.specs.Inner.Fair.{Fair}
-use Rattle.solver.specs.Inner.Moves.{Small}
+use Rattle.net.specs.Sized.{Sized}
 use Rattle.solver.proofs.Laws.Moves.{few_states}
 
 bits_below : (f : ℕ → Bool) (ls : List ℕ) → AllBelow 2 (map (λ (l : ℕ). one_if (f l)) ls)
@@ -44,6 +44,6 @@ pub net_proper : (net : List ℕ) → Proper (net_game net)
 unfolding net_game net_step
 net_proper net = record { leads = λ s r k. next_below net _; choice = pow_pos (net_controls net) }
 
-pub net_fair : (net : List ℕ) → Small net → Fair (net_game net) (2 ^ net_latches net)
+pub net_fair : (net : List ℕ) → Sized net → Fair (net_game net) (2 ^ net_latches net)
 unfolding net_game
-net_fair net small = record { proper = net_proper net; few = few_states net small; all = refl }
+net_fair net sized = record { proper = net_proper net; few = few_states net sized; all = refl }

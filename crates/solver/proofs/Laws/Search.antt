@@ -1,6 +1,6 @@
 -- The search for a move that keeps, a block at a time: a lane that keeps is the move looked for, and a block without one leaves the search
 -- behind its last lane. Assumes nothing.
-use Prim.Native.Nat.{ℕ, ◌+◌, ◌*◌, ◌-◌, ◌<◌, ◌≤◌}
+use Prim.Native.Nat.{ℕ, ◌+◌, ◌*◌, ◌-◌, ◌<◌, ◌≤◌, min, max}
 use native.Mathlib.Omega.{arith}
 use native.Mathlib.Decide.{dec_lt}
 use mathlib.Core.Bool.{Bool, true, false, not, ◌&&◌, true≢false}
@@ -8,7 +8,7 @@ use mathlib.Core.List.{List}
 use mathlib.Core.Path.{◌≡◌, refl, sym, ap, ◌∙◌}
 use Rattle.std.proofs.Common.{Some, None}
 use Rattle.below.specs.LeastFrom.{least_from}
-use Rattle.below.proofs.Laws.LeastFrom.{Searched, searched_more, searched_found, searched_end, from_found, from_none, from_same, from_le, from_holds, from_start, from-before}
+use Rattle.below.proofs.Laws.LeastFrom.{from_found, from_none, from_same, from_le, from_holds, from_start, from-before}
 use Rattle.blocks.specs.Lane.{width, lane, move_in}
 use Rattle.keeping.specs.Inner.InLane.{lane_number, keeps_in}
 use Rattle.keeping.specs.declared.lane.Found.{Found}
@@ -69,26 +69,45 @@ module _ (net : List ℕ) (set : ℕ → Bool) (error : ℕ) (next : List ℕ) (
       keeps : keeps_in set error next lane ≡ true
       keeps = ap (keeps_in set error next) e ∙ from_holds (keeps_in set error next) (from - block * width) (end - block * width) (omega (arith, e))
 
--- a search that came to a move, and what was found from there on up to another
-module _ (net : List ℕ) (set : ℕ → Bool) (from end m next : ℕ) (searched : Searched (move_keeps net set) from end m) (more : m < end) (forward : m ≤ next)
-    (within : next ≤ end) where
-  pub found_here : (f : Found) → MoveFrom net set m next (Some f) → MoveFrom net set from end (Some f)
-  found_here f got = record {
-    number = searched_found (move_keeps net set) from end m f.number searched (omega (arith, got.number, from_start (move_keeps net set) m next low))
-        (omega (arith, got.within)) (ap (move_keeps net set) got.number ∙ from_holds (move_keeps net set) m next low)
-        (λ i a b. from-before (move_keeps net set) m next i a (omega (arith, got.number)));
-    within = omega (arith, got.within);
-    leads = got.leads;
-  }
-    where
-      low : least_from (move_keeps net set) m next < next
-      low = omega (arith, got.number, got.within)
+-- none of the moves from one on, below an end, that lie before a block keeps
+pub record NoneBefore (net : List ℕ) (set : ℕ → Bool) (from end block : ℕ) : Type 0 where
+  pub none : (i : ℕ) → from ≤ i → i < end → i < width * block → move_keeps net set i ≡ false
 
-  pub none_here : MoveFrom net set m next None → Searched (move_keeps net set) from end next
-  none_here got =
-      searched_more (move_keeps net set) from end m next searched more forward within
-      (λ i a b. from-before (move_keeps net set) m next i a (omega (arith, got.number)))
+module _ (net : List ℕ) (set : ℕ → Bool) (from end : ℕ) where
+  none_keeps : ((i : ℕ) → from ≤ i → i < end → move_keeps net set i ≡ false) → MoveFrom net set from end None
+  none_keeps none = record { number = sym (from_none (move_keeps net set) from end none); within = tt; leads = tt }
 
--- behind the last move none is left
-pub none_left : (net : List ℕ) (set : ℕ → Bool) (from end m : ℕ) → Searched (move_keeps net set) from end m → end ≤ m → MoveFrom net set from end None
-none_left net set from end m searched h = record { number = searched_end (move_keeps net set) from end m searched h; within = tt; leads = tt }
+  -- where there is no move none keeps
+  pub no_move : end ≤ from → MoveFrom net set from end None
+  no_move h = none_keeps (λ i a b. absurd (omega arith))
+
+  pub none_start : (block : ℕ) → width * block ≤ from → NoneBefore net set from end block
+  none_start block h = record { none = λ i a b l. absurd (omega arith) }
+
+  -- behind the last block none is left
+  pub none_left : (block : ℕ) → NoneBefore net set from end block → end ≤ width * block → MoveFrom net set from end None
+  none_left block before h = none_keeps (λ i a b. before.none i a b (omega arith))
+
+  -- the part of a block that is looked through next
+  module _ (block : ℕ) (before : NoneBefore net set from end block) (low high : ℕ) (starts : low ≡ max from (width * block))
+      (ends : high ≡ min end (width * block + width)) where
+    passed : (i : ℕ) → from ≤ i → i < least_from (move_keeps net set) low high → move_keeps net set i ≡ false
+    passed i a l = elim (dec_lt i (width * block)) [
+      | yes h ↦ before.none i a (omega (arith, ends, from_le (move_keeps net set) low high)) h
+      | no h ↦ from-before (move_keeps net set) low high i (omega (arith, starts)) l
+    ]
+
+    pub found_here : (f : Found) → MoveFrom net set low high (Some f) → MoveFrom net set from end (Some f)
+    found_here f got = record {
+      number = sym (from_found (move_keeps net set) from end f.number (omega (arith, starts, got.number, from_start (move_keeps net set) low high some))
+          (omega (arith, ends, got.within)) (ap (move_keeps net set) got.number ∙ from_holds (move_keeps net set) low high some)
+          (λ i a l. passed i a (omega (arith, got.number))));
+      within = omega (arith, ends, got.within);
+      leads = got.leads;
+    }
+      where
+        some : least_from (move_keeps net set) low high < high
+        some = omega (arith, got.number, got.within)
+
+    pub none_here : MoveFrom net set low high None → NoneBefore net set from end (block + 1)
+    none_here got = record { none = λ i a b l. passed i a (omega (arith, ends, got.number)) }

@@ -20,11 +20,12 @@ use Rattle.game.specs.Reply.{reply}
 use Rattle.net.specs.InOrder.{InOrder}
 use Rattle.net.specs.Net.{net_controls, net_readings, net_latches}
 use Rattle.net.specs.NetOf.{net_of, net_literal, operands_of}
+use Rattle.net.specs.Sized.{Sized}
 use Rattle.net.proofs.Laws.InOrder.{Room, net_in_order}
 use Rattle.solver.specs.Over.{reply_over}
 use Rattle.solver.specs.RankTable.{rank_table}
 use Rattle.solver.specs.Solution.{reply_table}
-use Rattle.solver.specs.Inner.Moves.{Small, places}
+use Rattle.solver.specs.Inner.Moves.{places}
 use Rattle.game.specs.NetGame.{net_game}
 use Rattle.solver.specs.Inner.SolvableNet.{solvable_net}
 use Rattle.solver.proofs.Laws.Moves.{state_of, reading_of, few_states}
@@ -33,11 +34,11 @@ use Rattle.solver.proofs.Laws.NetGame.{net_proper}
 use Rattle.solver.proofs.Laws.Over.{reply_over-is-reply}
 
 -- the replies found at each place are the game's
-pub replies_end : (net ranks : List ℕ) → Small net → ranks ≡ rank_table (net_game net)
+pub replies_end : (net ranks : List ℕ) → Sized net → ranks ≡ rank_table (net_game net)
     → table (λ i. cond (ltb i (places net)) (reply_over (net_game net) ranks (i / 2 ^ net_readings net) (i % 2 ^ net_readings net)) 0)
     (2 ^ base.latches * 2 ^ base.uncontrollable) ≡ reply_table (net_game net)
 unfolding reply_table net_game places
-replies_end net ranks small e = table_same _ _ (2 ^ base.latches * 2 ^ base.uncontrollable) (λ i h. elim (dec_lt i n) [
+replies_end net ranks sized e = table_same _ _ (2 ^ base.latches * 2 ^ base.uncontrollable) (λ i h. elim (dec_lt i n) [
   | yes l ↦ ap (λ (x : ℕ). cond (ltb i n) x 0) (within i l)
   | no l ↦ rw (le-ltb i n (omega arith))
 ])
@@ -48,7 +49,7 @@ replies_end net ranks small e = table_same _ _ (2 ^ base.latches * 2 ^ base.unco
     within : (i : ℕ) → i < n → reply_over (net_game net) ranks (i / 2 ^ net_readings net) (i % 2 ^ net_readings net) ≡ reply (net_game net)
         (i / 2 ^ net_readings net) (i % 2 ^ net_readings net)
     within i h = ap (λ (l : List ℕ). reply_over (net_game net) l (i / 2 ^ net_readings net) (i % 2 ^ net_readings net)) e
-        ∙ reply_over-is-reply (net_game net) (net_proper net) (few_states net small) (i / 2 ^ net_readings net) (state_of net i h) (i % 2 ^ net_readings net)
+        ∙ reply_over-is-reply (net_game net) (net_proper net) (few_states net sized) (i / 2 ^ net_readings net) (state_of net i h) (i % 2 ^ net_readings net)
         (reading_of net i h)
 
 abbrev pub empty : List ℕ
@@ -62,9 +63,9 @@ empty_room : Room empty_circuit
 unfolding empty_circuit
 empty_room = record { inputs = omega arith; latches = omega arith; gates = omega arith }
 
-pub empty_small : Small empty
+pub empty_sized : Sized empty
 unfolding net_readings net_controls
-empty_small = record { order = subst InOrder (sym empty-is) (net_in_order empty_circuit empty_room); readings = omega arith; controls = omega arith }
+empty_sized = record { order = subst InOrder (sym empty-is) (net_in_order empty_circuit empty_room); few_readings = omega arith; few_controls = omega arith }
 
 -- by the counts of a net
 module _ (net : List ℕ) (order : InOrder net) (u k : ℕ) (others : u ≡ net_readings net) (chosen : k ≡ net_controls net) where
@@ -81,9 +82,9 @@ module _ (net : List ℕ) (order : InOrder net) (u k : ℕ) (others : u ≡ net_
     unfolding solvable_net
     few_itself = sym (ap (λ (b : Bool). cond b empty net) (sym counted ∙ e))
 
-    pub few_small : Small net
+    pub few_sized : Sized net
     unfolding net_readings net_controls
-    few_small = record { order = order; readings = omega (arith, (few_are u k e).0); controls = omega (arith, (few_are u k e).1) }
+    few_sized = record { order = order; few_readings = omega (arith, (few_are u k e).0); few_controls = omega (arith, (few_are u k e).1) }
 
 -- of a circuit
 module _ (c : Circuit) where

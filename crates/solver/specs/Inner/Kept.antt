@@ -3,7 +3,8 @@ use Rattle.std.specs.Prelude.{ℕ, ◌+◌, ◌-◌, ◌^◌, ◌<◌, ◌≤◌
 use Rattle.keeping.specs.KeptControls.{nothing}
 use Rattle.keeping.specs.declared.rank_list.KeptControl.{KeptControl}
 use Rattle.net.specs.Net.{net_controls}
-use Rattle.solver.specs.Inner.Moves.{Small, place_keeps, places}
+use Rattle.net.specs.Sized.{Sized}
+use Rattle.solver.specs.Inner.Moves.{place_keeps, places}
 use Rattle.solver.specs.Inner.Planes.{AllHeld}
 use Rattle.solver.specs.declared.planes.Slot.{Slot}
 
@@ -15,7 +16,7 @@ pub record KeptAt (net : List ℕ) (set : ℕ → Bool) (place : ℕ) (control :
 
 -- all that is kept, of each place and of each slot of planes
 pub record Kept (net : List ℕ) (set : ℕ → Bool) (kept : List KeptControl) (slots : List Slot) : Type 0 where
-  pub small : Small net
+  pub sized : Sized net
   pub long : places net ≤ length kept
   pub some : 0 < length slots
   pub held : AllHeld net slots

@@ -1,15 +1,7 @@
 -- Moves that keep (01, "The game"), by their number: a place is a state and a reading, state × 2^U + reading, and a move a place and a
 -- control, place × 2^C + control. Assumes nothing.
-use Rattle.std.specs.Prelude.{ℕ, ◌+◌, ◌*◌, ◌^◌, ◌≤◌, Bool, not, ◌&&◌, List}
-use Rattle.circuit.specs.Limits.{base}
-use Rattle.net.specs.InOrder.{InOrder}
+use Rattle.std.specs.Prelude.{ℕ, ◌+◌, ◌*◌, ◌^◌, Bool, not, ◌&&◌, List}
 use Rattle.net.specs.Net.{net_controls, net_readings, net_latches, net_error, net_next}
-
--- a net of no more than a circuit may have
-pub record Small (net : List ℕ) : Type 0 where
-  pub order : InOrder net
-  pub readings : net_readings net ≤ base.uncontrollable
-  pub controls : net_controls net ≤ base.controllable
 
 -- this move gives error 0 and a next state in the set
 unfoldable pub move_keeps : List ℕ → (set : ℕ → Bool) (move : ℕ) → Bool

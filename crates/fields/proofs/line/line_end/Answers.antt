@@ -14,12 +14,18 @@ use Rattle.fields.proofs.line.line_end.Goals as goal
 
 pub returns-in-Some : goal.returns-in-Some
 returns-in-Some c =
-    let t = c.from-rest.result.now in
-    let where_it-is = position_from_yields_List (λ b. eqb b 10) _ _ c.position.result c.position.ensures.ran (YieldsList-from_slice t (cc)) (λ x b q k. search (rules, tests)) in
-    ap (λ (n : ℕ). c.args.at + n) (sym (line_found t c.position.result where_it-is c.in-Some.i c.in-Some.is) ∙ ap (λ (l : List ℕ). length (first_line l)) c.from-rest.ensures)
+    let t = c.behind-rest.result.now in
+    let where_it-is =
+    position_from_yields_List (λ b. eqb b 10) _ _ c.position.result c.position.ensures.ran (YieldsList-from_slice t (cc))
+    (λ x b q k. search (rules, tests)) in
+    ap (λ (n : ℕ). c.args.at + n) (sym (line_found t c.position.result where_it-is c.in-Some.i c.in-Some.is)
+    ∙ ap (λ (l : List ℕ). length (first_line l)) c.behind-rest.ensures)
 
 pub returns-in-None : goal.returns-in-None
 returns-in-None c =
-    let t = c.from-rest.result.now in
-    let where_it-is = position_from_yields_List (λ b. eqb b 10) _ _ c.position.result c.position.ensures.ran (YieldsList-from_slice t (cc)) (λ x b q k. search (rules, tests)) in
-    ap (λ (n : ℕ). c.args.at + n) (sym (line_open t c.position.result where_it-is c.in-None.is) ∙ ap (λ (l : List ℕ). length (first_line l)) c.from-rest.ensures)
+    let t = c.behind-rest.result.now in
+    let where_it-is =
+    position_from_yields_List (λ b. eqb b 10) _ _ c.position.result c.position.ensures.ran (YieldsList-from_slice t (cc))
+    (λ x b q k. search (rules, tests)) in
+    ap (λ (n : ℕ). c.args.at + n) (sym (line_open t c.position.result where_it-is c.in-None.is)
+    ∙ ap (λ (l : List ℕ). length (first_line l)) c.behind-rest.ensures)

@@ -15,9 +15,9 @@ use Rattle.fields.proofs.number.digits_at.Goals as goal
 
 pub returns : goal.returns
 returns c =
-    let t = c.from-rest.result.now in
+    let t = c.behind-rest.result.now in
     let w = c.take_while in
     ap (λ (k : ℕ). take k t) (count_from_yields_List w.result _ c.count-n.ensures.ran
     (YieldsList-from_take_while _ is_ascii_digit (YieldsList-from_slice t (cc)) w.ensures.closure w.ensures.done (λ x b q k. search (rules, tests)))
     ∙ length-prefix_len is_ascii_digit t)
-    ∙ run_taken is_ascii_digit t ∙ (λ i. run (λ b. ascii_digit b i) (c.from-rest.ensures i))
+    ∙ run_taken is_ascii_digit t ∙ (λ i. run (λ b. ascii_digit b i) (c.behind-rest.ensures i))

@@ -17,7 +17,8 @@ use Rattle.keeping.proofs.lane.lane_number.Goals.{In-Some}
 turn : (c : In-Some) → (length c.loop-word.yielded < length (reverse (take base.latches c.args.words.now)))
     × (c.in-Some.word.now ≡ get_or (reverse (take base.latches c.args.words.now)) (length c.loop-word.yielded) c.in-Some.word.now)
 turn c = let l = c.loop-word in
-    YieldsList-turn (YieldsList-from_rev_slice (take base.latches c.args.words.now) cc) l.yielded _ l.yielded_by _ _ c.in-Some.word c.in-Some.is c.next.ensures.steps
+    YieldsList-turn (YieldsList-from_rev_slice (take base.latches c.args.words.now) cc) l.yielded _ l.yielded_by _ _
+    c.in-Some.word c.in-Some.is c.next.ensures.steps
 
 pub loop-word-init : goal.loop-word-init
 loop-word-init c = taken_none c.args.words.now c.args.j

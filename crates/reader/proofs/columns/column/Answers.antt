@@ -12,7 +12,8 @@ loop-k-init g c = filling_starts (λ (row : List ℕ). get_or row c.args.which 0
 pub loop-k-preserved : goal.loop-k-preserved
 loop-k-preserved g c =
     let l = c.loop-k in
-    filling_more (λ (row : List ℕ). get_or row c.args.which 0) c.args.rows.now g.row.N l.out l.k l.invariant (omega (arith, c.loop-k-test.true, c.requires.room))
+    filling_more (λ (row : List ℕ). get_or row c.args.which 0) c.args.rows.now g.row.N l.out l.k l.invariant
+    (omega (arith, c.loop-k-test.true, c.requires.room))
 
 pub returns : goal.returns
 returns g c =

@@ -7,5 +7,5 @@ use Rattle.solver.proofs.Laws.Kept.{kept_start}
 use Rattle.solver.proofs.rooms.solve_within.Goals as goal
 
 pub solve_in-requires : goal.solve_in-requires
-solve_in-requires g c = λ set. kept_start c.args.net.now set _ _ _ _ _ c.requires.small (replicate_table {A = KeptControl} _ _) refl refl
+solve_in-requires g c = λ set. kept_start c.args.net.now set _ _ _ _ _ c.requires.sized (replicate_table {A = KeptControl} _ _) refl refl
     (replicate_table {A = Slot} _ _) c.requires.enough c.requires.some

@@ -11,6 +11,6 @@ returns c = let r = c.rounds.ensures.ended in
     let replies = rw c.rounds.ensures.same.0 at c.put_replies.ensures in
     λ x. record {
       ranks = r.ranks_are x;
-      replies = (replies ∙ replies_end c.args.net.now c.rounds.result.ranks (c.requires (λ t. true)).small r.ranks_are) x;
+      replies = (replies ∙ replies_end c.args.net.now c.rounds.result.ranks (c.requires (λ t. true)).sized r.ranks_are) x;
       attacks = r.attacks_are x;
     }

@@ -4,4 +4,4 @@ use Rattle.reader.proofs.Laws.BodyLoop.{Looping}
 use Rattle.reader.proofs.rest.Rest.body.Given as goal
 
 abbrev pub invariant-loop-j : goal.invariant-loop-j
-invariant-loop-j l = Looping (said l.h) l.self.bytes.now l.defined l.rows l.at l.j
+invariant-loop-j l = Looping (said l.h) l.self.bytes.now l.defined l.rows l.at l.j-counter

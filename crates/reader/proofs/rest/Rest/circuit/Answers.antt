@@ -35,4 +35,5 @@ pub returns : goal.returns
 returns c =
     let self = c.args.self.now in
     counted_read (said self.header) self.bytes.now c.in_ok-body.body c.in_ok-body.ensures c.in_ok-defined.field-0 c.in_ok-defined.ensures self.few
-    c.in_ok-order.order c.in_ok-order.ensures c.in_ok-flags.flags c.in_ok-flags.ensures c.circuit_of.result c.circuit_of.ensures c.counted.result c.counted.ensures
+    c.in_ok-order.order c.in_ok-order.ensures c.in_ok-flags.flags c.in_ok-flags.ensures c.circuit_of.result c.circuit_of.ensures
+    c.counted.result c.counted.ensures

@@ -8,6 +8,8 @@ use mathlib.Core.Path.{◌≡◌, sym, ap, ◌∙◌}
 use Rattle.below.specs.Table.{table}
 use Rattle.below.proofs.Laws.Table.{get_or_table, length_table}
 use Rattle.circuit.specs.Answer.{outcome_of}
+use Rattle.circuit.specs.Outcome.{refused}
+use Rattle.text.specs.Numbers.{not_defined}
 use Rattle.lines.specs.Inner.Headed.{said}
 use Rattle.reader.specs.Inner.DefinedAs.{any_unmarked}
 use Rattle.reader.specs.Inner.Rows.{late_at}
@@ -35,9 +37,11 @@ returns-then-uses_unknown c =
     let b = c.args.body.now in
     let l = c.loop-k in
     let u = c.uses_unknown in
+    let low : l.k < h.latches + 1 + h.gates = omega (arith, c.loop-k-test.true, c.latches.ensures, c.gates.ensures) in
     λ defined says.
-    sym (unknown-here b.defined (literals h b.rows) l.k l.invariant (omega (arith, c.loop-k-test.true, long h b.rows))
-    (here h b.rows b.defined l.k u.result c.loop-k-test.true u.ensures ∙ c.if-uses_unknown.true) defined (2 + h.inputs) says)
+    sym (unknown-here b.defined (literals h b.rows) l.k l.invariant (omega (arith, low, long h b.rows))
+    (here h b.rows b.defined l.k u.result low u.ensures ∙ c.if-uses_unknown.true) defined (2 + h.inputs) says
+    ∙ ap (λ (i : ℕ). refused not_defined (2 + i + l.k)) (sym c.inputs.ensures))
 
 pub loop-k-preserved : goal.loop-k-preserved
 loop-k-preserved c =
@@ -45,8 +49,9 @@ loop-k-preserved c =
     let b = c.args.body.now in
     let l = c.loop-k in
     let u = c.uses_unknown in
-    known_more b.defined (literals h b.rows) l.k l.invariant (omega (arith, c.loop-k-test.true, long h b.rows))
-    (here h b.rows b.defined l.k u.result c.loop-k-test.true u.ensures ∙ c.if-uses_unknown.false)
+    let low : l.k < h.latches + 1 + h.gates = omega (arith, c.loop-k-test.true, c.latches.ensures, c.gates.ensures) in
+    known_more b.defined (literals h b.rows) l.k l.invariant (omega (arith, low, long h b.rows))
+    (here h b.rows b.defined l.k u.result low u.ensures ∙ c.if-uses_unknown.false)
 
 pub returns : goal.returns
 unfolding outcome_of
@@ -54,4 +59,4 @@ returns c =
     let h = said c.args.self.now.header in
     let b = c.args.body.now in
     λ defined says. sym (all_known b.defined (literals h b.rows) c.loop-k.k c.loop-k.invariant
-    (omega (arith, c.loop-k-test.false, long h b.rows)) defined (2 + h.inputs) says)
+    (omega (arith, c.loop-k-test.false, c.latches.ensures, c.gates.ensures, long h b.rows)) defined (2 + h.inputs) says)

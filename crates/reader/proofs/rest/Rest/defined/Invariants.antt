@@ -7,4 +7,6 @@ use Rattle.reader.proofs.Laws.UsedLoop.{Known}
 use Rattle.reader.proofs.rest.Rest.defined.Given as goal
 
 abbrev pub invariant-loop-k : goal.invariant-loop-k
-invariant-loop-k l = Known l.body.defined (table (late_at (said l.h) l.body.rows) (l.h.latches + 1 + l.h.gates)) l.k
+invariant-loop-k l =
+    let h = l.self.header in
+    Known l.body.defined (table (late_at (said h) l.body.rows) (h.latches + 1 + h.gates)) l.k

@@ -21,7 +21,7 @@ within c = let s = c.args.self.now in
     state_places s.net.now (ranks_in s.set.ranks.now) s.set.bound c.args.state c.readings-n.result c.requires c.readings-n.ensures.value
 
 few : (c : After-readings-n) → c.args.state * c.readings-n.result + c.readings-n.result ≤ 32768
-few c = let s = c.args.self.now in omega (arith, within c, few_places s.net.now s.all_kept.small)
+few c = let s = c.args.self.now in omega (arith, within c, few_places s.net.now s.all_kept.sized)
 
 pub overflow_mul-first : goal.overflow_mul-first
 overflow_mul-first c = omega (arith, few (goal.at.overflow_mul-first c).After-readings-n)
@@ -86,7 +86,8 @@ loop-place-smaller c = let s = c.args.self.now in
       arith,
       c.in-Some.ensures.within,
       place_later s.net.now (ranks_in s.set.ranks.now) s.set.bound c.args.state c.readings-n.result c.requires
-          c.readings-n.ensures.value l.self.kept.now l.self.slots.now (kept (goal.at.loop-place-smaller c).At-loop-place) l.from l.invariant.passed c.in-Some.place
+          c.readings-n.ensures.value l.self.kept.now l.self.slots.now (kept (goal.at.loop-place-smaller c).At-loop-place) l.from l.invariant.passed
+          c.in-Some.place
           (place (goal.at.loop-place-smaller c).In-Some) c.in-Some.ensures.within,
     )
 
@@ -95,7 +96,8 @@ loop-place-preserved c = let s = c.args.self.now in
     let l = c.loop-place in
     let p = passed (goal.at.loop-place-preserved c).In-Some (kept (goal.at.loop-place-preserved c).At-loop-place) in
     let control = rw (l.invariant.same.0, l.invariant.same.1) at c.look_on.ensures.control in record {
-      passed = passed_more s.net.now (ranks_in s.set.ranks.now) s.set.bound c.args.state c.readings-n.result c.requires c.readings-n.ensures.value c.in-Some.place p
+      passed = passed_more s.net.now (ranks_in s.set.ranks.now) s.set.bound c.args.state c.readings-n.result c.requires c.readings-n.ensures.value
+          c.in-Some.place p
           c.in-Some.ensures.within c.look_on.result (c.is_none.ensures ∙ ap not c.if-is_none.false) control;
       same = search rules;
     }

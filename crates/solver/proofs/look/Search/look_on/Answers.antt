@@ -9,7 +9,7 @@ use Rattle.solver.proofs.look.Search.look_on.Goals.{After-controls-n}
 
 fits : (c : After-controls-n) → c.args.place * c.controls-n.result + c.controls-n.result ≤ 8388608
 fits c = let s = c.args.self.now in
-    moves_fit s.net.now s.all_kept.small c.args.place c.controls-n.result c.requires.place_bound c.controls-n.ensures.value
+    moves_fit s.net.now s.all_kept.sized c.args.place c.controls-n.result c.requires.place_bound c.controls-n.ensures.value
 
 pub overflow_mul-first : goal.overflow_mul-first
 overflow_mul-first c = omega (arith, fits (goal.at.overflow_mul-first c).After-controls-n)

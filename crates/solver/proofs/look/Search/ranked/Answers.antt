@@ -18,7 +18,8 @@ pub returns-in-Some-clause-rank : goal.returns-in-Some-clause-rank
 unfolding net_game
 returns-in-Some-clause-rank c = let s = c.args.self.now in
     rw c.in-Some.ensures.same.1
-    (rank-given (net_game s.net.now) s.set.bound (ranks_in s.set.ranks.now) c.args.state _ c.rank_at-rank.ensures _ c.if-rank-gt0.false c.in-Some.ensures.reading)
+    (rank-given (net_game s.net.now) s.set.bound (ranks_in s.set.ranks.now) c.args.state _ c.rank_at-rank.ensures _ c.if-rank-gt0.false
+    c.in-Some.ensures.reading)
 
 pub returns-in-Some-clause-attack : goal.returns-in-Some-clause-attack
 unfolding net_game

@@ -23,10 +23,10 @@ use Rattle.solver.proofs.rounds.Room.rounds.Goals as goal
 use Rattle.solver.proofs.rounds.Room.rounds.Goals.{Start, After-eq}
 
 fair : (s : Start) → Fair (net_game s.args.self.now.net.now) (2 ^ net_latches s.args.self.now.net.now)
-fair s = net_fair s.args.self.now.net.now (s.requires (λ t. true)).small
+fair s = net_fair s.args.self.now.net.now (s.requires (λ t. true)).sized
 
 pub states-k-end-requires : goal.states-k-end-requires
-states-k-end-requires c = (c.requires (λ t. true)).small
+states-k-end-requires c = (c.requires (λ t. true)).sized
 
 pub loop-k-init : goal.loop-k-init
 loop-k-init c = record {
